@@ -1,9 +1,8 @@
 -- The counts of a schedule, and how rings and doorbells represent them.
-use Rattle.nv_driver.proofs.Words.{ℕ, ◌*◌, ◌+◌, ◌-◌, ◌<◌, ◌∙◌, ◌≡◌, ◌≢◌, ◌≤◌, FetchNumbers, IsSlotBetween, PostNumbers}
-use Rattle.nv_driver.proofs.Words.{Setting, ahead, ap, arith, bank_with, between_kept, device_rings, distance}
-use Rattle.nv_driver.proofs.Words.{distance_kept, first_kept, kept_below, kept_next, kept_number, nat_le, nat_lt}
-use Rattle.nv_driver.proofs.Words.{nat_tests, next, number, refl, rung_by, slot, slot_kept, slots_apart, sym, told_by}
-use Rattle.nv_driver.proofs.Words.{true, with_register_at}
+use Rattle.nv_driver.proofs.Words.{ℕ, ◌*◌, ◌+◌, ◌-◌, ◌<◌, ◌∙◌, ◌≡◌, ◌≢◌, ◌≤◌, IsSlotBetween, Setting, ahead, ap, arith}
+use Rattle.nv_driver.proofs.Words.{bank_with, between_kept, device_rings, distance, distance_kept, first_kept}
+use Rattle.nv_driver.proofs.Words.{kept_below, kept_next, kept_number, nat_le, nat_lt, nat_tests, next, number, refl}
+use Rattle.nv_driver.proofs.Words.{slot, slot_kept, slots_apart, sym, true, with_register_at}
 use Rattle.nv_queue.proofs.NumberLaws.{distance_cases, slot_below}
 
 -- the number of a command is below twice the depth

@@ -1,12 +1,12 @@
 -- The effect of taking one entry in a turn, and what doesn't change.
 use Rattle.nv_driver.proofs.Words.{[], ℕ, ◌*◌, ◌+◌, ◌-◌, ◌<◌, ◌∙◌, ◌≡◌, ◌≢◌, ◌≤◌, Answer, AreApart, AreOthers}
 use Rattle.nv_driver.proofs.Words.{AreOutside, Asked, Call, ChangesOnly, Cqe, CqeFits, Delivers, Err, GoesBy, HasRings}
-use Rattle.nv_driver.proofs.Words.{Holds, HoldsTags, IsAnswered, IsOwn, IsWellFormed, Keeps, KeepsList, List, MovesBy}
-use Rattle.nv_driver.proofs.Words.{Ok, One, Result, Scene, Sent, Setting, Sqe, State, StatusCode, StaysNamed, Step}
-use Rattle.nv_driver.proofs.Words.{Takes, Transfer, World, ap, arith, asked_step, bank_with, bytes_at, bytes_to_host}
-use Rattle.nv_driver.proofs.Words.{call_of, can_means, can_take, cases_eq, cases_lt, command_in, completion_at}
-use Rattle.nv_driver.proofs.Words.{completion_with, data_of, device_rings, distance, entry, get_or, get_or_default, inl}
-use Rattle.nv_driver.proofs.Words.{inr, length, length-with_completion, length-written_at, limit_of, number, numbered}
+use Rattle.nv_driver.proofs.Words.{Holds, IsOwn, Keeps, KeepsList, List, MovesBy, Ok, One, Result, Scene, Sent, Setting}
+use Rattle.nv_driver.proofs.Words.{Sqe, State, StatusCode, StaysNamed, Step, Takes, Transfer, World, ap, arith}
+use Rattle.nv_driver.proofs.Words.{asked_step, bank_with, bytes_at, bytes_to_host, call_of, can_means, can_take}
+use Rattle.nv_driver.proofs.Words.{cases_eq, cases_lt, command_in, completion_at, completion_with, data_of}
+use Rattle.nv_driver.proofs.Words.{device_rings, distance, entry, get_or, get_or_default, inl, inr, length}
+use Rattle.nv_driver.proofs.Words.{length-with_completion, length-written_at, limit_of, number, numbered}
 use Rattle.nv_driver.proofs.Words.{page_size_bounds, places, pointed, posted_as, put_written, read_at, received_from}
 use Rattle.nv_driver.proofs.Words.{refl, replies_fit, scene, slot, step_of, step_unless, subst, sym, tagged, tags_after}
 use Rattle.nv_driver.proofs.Words.{true, with_completion, written_at}

@@ -1,15 +1,14 @@
 -- A single entry: a run of one request, with its data in the pages behind those of all controllers.
 use Rattle.nv_driver.proofs.Words.{[], ℕ, ◌%◌, ◌*◌, ◌+◌, ◌∙◌, ◌∷◌, ◌≡◌, ◌≤◌, Answer, AreSendable, Asked, BusTurn}
-use Rattle.nv_driver.proofs.Words.{BusValue, Comes, CommandPages, CommandResult, Delivers, Err, Geometry, HasRoom}
-use Rattle.nv_driver.proofs.Words.{IsBuffer, IsHeard, IsHeld, IsLeft, IsPaced, IsReadIn, IsReady, IsReceived, IsRequest}
-use Rattle.nv_driver.proofs.Words.{IsRunOf, KeepsOutside, LiesInPages, List, NumberSet, Ok, Pages, QueuePair}
-use Rattle.nv_driver.proofs.Words.{QueuePairFields, Request, RequestPlace, Requests, Run, Sent, Sqe, SqeFits, Status}
-use Rattle.nv_driver.proofs.Words.{TailWrite, Transfer, Write, after_some, all_of, all_pages, ap, arith, asked_in}
-use Rattle.nv_driver.proofs.Words.{buffer_places, bytes_read, came_with, command_result_of, entry_step, get_or}
-use Rattle.nv_driver.proofs.Words.{greatest_limit, length, length-take, length_of, limit_bounds, limit_of, min}
-use Rattle.nv_driver.proofs.Words.{mul-le-mul_right, numbered, numbered_request, padded, pages_of_entry, pair_value}
-use Rattle.nv_driver.proofs.Words.{place_in, received_from, refl, request_for, requests_in, run_of, side, status_in}
-use Rattle.nv_driver.proofs.Words.{step_of, subst, sym, transfer_for}
+use Rattle.nv_driver.proofs.Words.{BusValue, Comes, CommandPages, CommandResult, Delivers, Err, Geometry, IsBuffer}
+use Rattle.nv_driver.proofs.Words.{IsHeard, IsHeld, IsLeft, IsPaced, IsReadIn, IsReady, IsReceived, IsRequest, IsRunOf}
+use Rattle.nv_driver.proofs.Words.{KeepsOutside, LiesInPages, List, NumberSet, Ok, Pages, QueuePair, QueuePairFields}
+use Rattle.nv_driver.proofs.Words.{Request, RequestPlace, Requests, Run, Sent, Sqe, SqeFits, Status, TailWrite}
+use Rattle.nv_driver.proofs.Words.{Transfer, Write, after_some, all_of, all_pages, ap, arith, asked_in, buffer_places}
+use Rattle.nv_driver.proofs.Words.{bytes_read, came_with, command_result_of, entry_step, get_or, greatest_limit, length}
+use Rattle.nv_driver.proofs.Words.{length-take, length_of, limit_bounds, limit_of, min, mul-le-mul_right, numbered}
+use Rattle.nv_driver.proofs.Words.{numbered_request, padded, pages_of_entry, pair_value, place_in, received_from, refl}
+use Rattle.nv_driver.proofs.Words.{request_for, requests_in, run_of, side, status_in, step_of, subst, sym, transfer_for}
 use Rattle.nv_driver.proofs.AnswerLaws.{IsAnswerTo, answer_sound}
 use Rattle.nv_driver.proofs.PointerLaws.{few_of_entry, own_is}
 use Rattle.nv_driver.proofs.PaddingLaws.{length-padded}

@@ -1,15 +1,15 @@
 -- What a schedule preserves from a queue pair without outstanding commands on, when a doorbell is rung or an answer is
 -- collected, and its state after the schedule has ended.
-use Rattle.nv_driver.proofs.Words.{[], ℕ, ◌%◌, ◌*◌, ◌++◌, ◌+◌, ◌-◌, ◌<◌, ◌↔◌, ◌∙◌, ◌∷◌, ◌≡◌, ◌≤◌, All, AreInOrder}
-use Rattle.nv_driver.proofs.Words.{AreOutside, Bell, Bool, BusValue, Collect, CollectNumbers, Geometry, Happens, Holds}
-use Rattle.nv_driver.proofs.Words.{HoldsTags, IsApart, IsAwaitedThere, IsIdle, IsLaid, IsOf, IsQuiet, IsReadable}
-use Rattle.nv_driver.proofs.Words.{IsReady, Keeps, KeepsBelow, KeepsOutside, List, OthersStay, Pages, QueuePair}
-use Rattle.nv_driver.proofs.Words.{QueuePairFields, RegisterBank, Sent, Setting, State, Tell, World, answer_awaited}
-use Rattle.nv_driver.proofs.Words.{answers_to, ap, arith, awaited, bank_with, beginning, cases_lt, collect_ring}
-use Rattle.nv_driver.proofs.Words.{completion_at, device_rings, false, get_or, get_or_append_left, get_or_default}
-use Rattle.nv_driver.proofs.Words.{get_or_push, inl, inr, kept_number, length, length-append, limit_of, mod-eq_of_lt}
-use Rattle.nv_driver.proofs.Words.{mul-le-mul_right, not_own, number, own_pages, pair_value, phase_of, refl, setting}
-use Rattle.nv_driver.proofs.Words.{slot, submit_ring, subst, sym, tag_below_here, tag_there, with_register_at}
+use Rattle.nv_driver.proofs.Words.{[], ℕ, ◌%◌, ◌*◌, ◌++◌, ◌+◌, ◌<◌, ◌↔◌, ◌∙◌, ◌∷◌, ◌≡◌, ◌≤◌, All, AreInOrder, Bell}
+use Rattle.nv_driver.proofs.Words.{Bool, BusValue, Collect, CollectNumbers, Geometry, Happens, Holds, HoldsTags}
+use Rattle.nv_driver.proofs.Words.{IsApart, IsAwaitedThere, IsIdle, IsLaid, IsOf, IsQuiet, IsReadable, IsReady, Keeps}
+use Rattle.nv_driver.proofs.Words.{KeepsBelow, KeepsOutside, List, OthersStay, QueuePair, QueuePairFields, RegisterBank}
+use Rattle.nv_driver.proofs.Words.{Sent, Setting, State, Tell, World, answer_awaited, answers_to, ap, arith, awaited}
+use Rattle.nv_driver.proofs.Words.{bank_with, beginning, cases_lt, collect_ring, completion_at, device_rings, false}
+use Rattle.nv_driver.proofs.Words.{get_or, get_or_append_left, get_or_default, get_or_push, inl, inr, kept_number}
+use Rattle.nv_driver.proofs.Words.{length, length-append, limit_of, mod-eq_of_lt, mul-le-mul_right, not_own, number}
+use Rattle.nv_driver.proofs.Words.{own_pages, pair_value, phase_of, refl, setting, slot, submit_ring, subst, sym}
+use Rattle.nv_driver.proofs.Words.{tag_below_here, tag_there, with_register_at}
 use Rattle.nv_driver.proofs.CountLaws.{head_told, number_above, number_below, numbers_differ, slot_inside, tail_rung}
 use Rattle.nv_driver.proofs.AnswerLaws.{holds_on}
 use Rattle.nv_driver.proofs.BatchLaws.{answer_at}

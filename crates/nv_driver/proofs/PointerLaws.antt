@@ -1,14 +1,14 @@
 -- The pages of a command: how many it has, that its data and its list fit there, and what a controller reads of its
 -- entry.
 use Rattle.nv_driver.proofs.Words.{[], ℕ, ◌*◌, ◌+◌, ◌<◌, ◌>>=◌, ◌^◌, ◌∙◌, ◌∷◌, ◌≡◌, ◌≤◌, All, AreDistinct, Asked, Call}
-use Rattle.nv_driver.proofs.Words.{CommandPages, Err, FromHost, Geometry, HasPage, HasRoom, HoldsSent, IsFor}
-use Rattle.nv_driver.proofs.Words.{IsGeometry, IsOf, IsPageSize, IsPlaceFor, IsRequest, KeepsList, LiesInPages, List}
-use Rattle.nv_driver.proofs.Words.{NoData, Ok, Pages, Result, Run, Sent, Setting, Sqe, StatusCode, StaysNamed, ToHost}
-use Rattle.nv_driver.proofs.Words.{Transfer, all_pages, ap, arith, buffer_place, buffer_places, call_of, cases_lt}
-use Rattle.nv_driver.proofs.Words.{command_of, data_count, data_length, data_places, div_ceil, div_ceil_times, drop}
-use Rattle.nv_driver.proofs.Words.{entry, get_or, greatest_limit, inl, inr, length, length-drop, length-take, length_of}
-use Rattle.nv_driver.proofs.Words.{moves_of, mul-le-mul_right, own_pages, page_size_bounds, pages_for, pages_of_entry}
-use Rattle.nv_driver.proofs.Words.{place_in, places, places_of, pointed, refl, sent_from, subst, suc, sym, table-same}
+use Rattle.nv_driver.proofs.Words.{CommandPages, Err, Geometry, HasPage, HasRoom, HoldsSent, IsFor, IsGeometry, IsOf}
+use Rattle.nv_driver.proofs.Words.{IsPageSize, IsPlaceFor, IsRequest, KeepsList, LiesInPages, List, NoData, Ok, Pages}
+use Rattle.nv_driver.proofs.Words.{Result, Run, Sent, Setting, Sqe, StatusCode, StaysNamed, Transfer, all_pages, ap}
+use Rattle.nv_driver.proofs.Words.{arith, buffer_place, buffer_places, call_of, cases_lt, command_of, data_count}
+use Rattle.nv_driver.proofs.Words.{data_length, data_places, div_ceil, div_ceil_times, drop, entry, get_or}
+use Rattle.nv_driver.proofs.Words.{greatest_limit, inl, inr, length, length-drop, length-take, length_of, moves_of}
+use Rattle.nv_driver.proofs.Words.{mul-le-mul_right, own_pages, page_size_bounds, pages_for, pages_of_entry, place_in}
+use Rattle.nv_driver.proofs.Words.{places, places_of, pointed, refl, sent_from, subst, suc, sym, table-same}
 use Rattle.nv_driver.proofs.Words.{transfer_of, within}
 use Rattle.nv_prp.specs.Transfer.{IsLegal, PrpTransfer, place_of, transfer, transfer_places}
 use Rattle.nv_bus.proofs.CallLaws.{legal_places, no_places}

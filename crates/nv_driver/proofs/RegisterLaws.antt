@@ -6,7 +6,7 @@ use Rattle.nv_driver.proofs.Words.{get_or-set_same, get_or_default, idle_bank, i
 use Rattle.nv_driver.proofs.Words.{length, length-map, length-map-range_with_len, map, mps_of, mul-mod_left, nat_tests}
 use Rattle.nv_driver.proofs.Words.{new_bank, new_rings, pair_of, pair_pages, pairs_of, refl, reset_if, same_lists}
 use Rattle.nv_driver.proofs.Words.{set-get_or, set-set, slice_index_or, state_written, submission_pages, suc, sym, true}
-use Rattle.nv_driver.proofs.Words.{with_cc, with_high, with_low, with_queues, with_register_at, zero, zero-add}
+use Rattle.nv_driver.proofs.Words.{with_cc, with_high, with_low, with_queues, with_register_at, zero-add}
 use Rattle.std.proofs.Common.{slice_set}
 use Rattle.nv_layout.specs.Bits.{bits}
 use Rattle.nv_register.specs.Dwords.{aqa_of_dword, cc_of_dword}
@@ -75,10 +75,11 @@ pub queues_written : (a : List RegisterBank) {b d e f k : List RegisterBank} {c 
     → f ≡ slice_set e c (with_register_at (bank_at e c) 0x30 q1)
     → k ≡ slice_set f c (with_register_at (bank_at f c) 0x34 q2) → k ≡ slice_set a c (with_queues (bank_at a c) l)
 queues_written a {c = c} x s1 s2 q1 q2 l h off deep is low high behind above first second third fourth fifth =
+    let p = bank_at a c in
     wrote a 0x34 q2 _ h (wrote a 0x30 q1 _ h (wrote a 0x2c s2 _ h (wrote a 0x28 s1 _ h first second) third) fourth)
     fifth
-    ∙ ap (slice_set a c) (rw (is, low, high, behind, above, off, queues_read (l.depth - 1) (omega arith),
-    address_read (bank_at a c).asq l.sq, address_read (bank_at a c).acq l.cq) refl)
+    ∙ ap (slice_set a c) (rw (is, low, high, behind, above)
+    (rw (off, queues_read (l.depth - 1) (omega arith), address_read p.asq l.sq, address_read p.acq l.cq) refl))
 
 -- ---- EN is set
 

@@ -1,9 +1,9 @@
 -- Commands and any entries with any data from the host are requests.
 use Rattle.nv_driver.proofs.Words.{ℕ, ◌<◌, ◌>>=◌, ◌^◌, ◌∙◌, ◌≡◌, ◌≤◌, Asked, Attachment, Bool, Command, CommandFits}
 use Rattle.nv_driver.proofs.Words.{Err, FromHost, GoesBy, HasRoom, IsRequest, IsSendable, List, NoData, Ok, Result, Sqe}
-use Rattle.nv_driver.proofs.Words.{SqeFits, StatusCode, ToHost, Transfer, ap, arith, asked_by, bytes_from_host}
-use Rattle.nv_driver.proofs.Words.{command_of, commands_travel, greatest_limit, length_of, limit_bounds, limit_of, lit<}
-use Rattle.nv_driver.proofs.Words.{lit≤, moves_of, refl, request_of, sent_for, subst, sym, transfer_by, transfer_for}
+use Rattle.nv_driver.proofs.Words.{SqeFits, StatusCode, ToHost, Transfer, ap, arith, bytes_from_host, command_of}
+use Rattle.nv_driver.proofs.Words.{commands_travel, greatest_limit, length_of, limit_bounds, limit_of, lit<, lit≤}
+use Rattle.nv_driver.proofs.Words.{moves_of, refl, request_of, sent_for, subst, sym, transfer_by, transfer_for}
 use Rattle.nv_driver.proofs.Words.{transfer_of, within}
 use Rattle.nv_layout.specs.CtrlList.{ctrl_list_of_bytes}
 use Rattle.nv_command.specs.Decoding.{command_with, decoded_as, decoded_of, opcode_of, transfer_in}
@@ -11,8 +11,7 @@ use Rattle.nv_command.specs.Management.{listed, page_of}
 use Rattle.nv_command.specs.Form.{page_from_host}
 use Rattle.nv_command.specs.declared.decoded.Decoded.{Decoded}
 use Rattle.nv_command.specs.declared.decoded.Opcode.{Opcode}
-use Rattle.nv_command.specs.declared.decoded.Opcode.TheVariants.{FormatNvm, GetFeatures, GetLogPage, Identify}
-use Rattle.nv_command.specs.declared.decoded.Opcode.TheVariants.{NamespaceAttachment, NamespaceManagement, SetFeatures}
+use Rattle.nv_command.specs.declared.decoded.Opcode.TheVariants.{Identify}
 use Rattle.nv_bus.proofs.CallLaws.{AskedIf, asked_of, has_room, namespace_in, within_few, within_limit}
 use Rattle.nv_driver.specs.Request.{EveryCommandIsRequest, EveryEntryIsRequest, entry_as, moved_by}
 use Rattle.nv_driver.proofs.PaddingLaws.{length-padded}

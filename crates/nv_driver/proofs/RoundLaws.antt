@@ -1,19 +1,18 @@
 -- A list of requests while it is executed: doorbells, turns and answers.
 use Rattle.nv_driver.proofs.Words.{[], ℕ, ◌%◌, ◌++◌, ◌+◌, ◌-◌, ◌<◌, ◌∙◌, ◌∷◌, ◌≡◌, ◌≢◌, ◌≤◌, All, AllPairs, Answer}
 use Rattle.nv_driver.proofs.Words.{AreReceived, AreTaken, Batch, Bell, BusTurn, BusValue, Collect, Command}
-use Rattle.nv_driver.proofs.Words.{CommandPages, CommandResult, Cqe, DoesNext, Event, HasAnswers, Holds, IsAnswered}
-use Rattle.nv_driver.proofs.Words.{IsBuffer, IsBus, IsDue, IsHeard, IsHeld, IsOf, IsOnWay, IsPlaceFor, IsReadable}
-use Rattle.nv_driver.proofs.Words.{IsRunOf, IsSendable, IsToReport, IsTold, IsToldInTime, IsUnderWay, LiesInPages, List}
-use Rattle.nv_driver.proofs.Words.{Pages, QueuePairFields, Request, RequestPlace, Requests, Run, Sent, Status}
-use Rattle.nv_driver.proofs.Words.{TailWrite, Tell, TookNothing, Turn, Write, add-one, all_pages, answer_from}
-use Rattle.nv_driver.proofs.Words.{answer_to, answers_to, ap, arith, awaited_completion, bank_at, buffer_places}
-use Rattle.nv_driver.proofs.Words.{collected_one, completion_at, drop-cons, false, free_pages, from_cid, get_or}
-use Rattle.nv_driver.proofs.Words.{get_or_default, greatest_limit, held_pages, inl, inr, known_to, length}
-use Rattle.nv_driver.proofs.Words.{length-append, length-set, length-take, length_of, min, own_pages, pages_of_all}
-use Rattle.nv_driver.proofs.Words.{place_in, places as places_of, received_from, refl, request_of, set, setting_of}
-use Rattle.nv_driver.proofs.Words.{slice_set, slot, slot_of, state_after_all, step_after, subst, sym, take, take_more}
-use Rattle.nv_driver.proofs.Words.{take_more_set, transfer_by, true, way, with_pages, with_register_at, without}
-use Rattle.nv_driver.proofs.Words.{world_of}
+use Rattle.nv_driver.proofs.Words.{CommandPages, CommandResult, Cqe, DoesNext, Event, HasAnswers, IsAnswered, IsBuffer}
+use Rattle.nv_driver.proofs.Words.{IsBus, IsDue, IsHeard, IsHeld, IsOf, IsOnWay, IsPlaceFor, IsReadable, IsRunOf}
+use Rattle.nv_driver.proofs.Words.{IsSendable, IsToReport, IsTold, IsToldInTime, IsUnderWay, LiesInPages, List, Pages}
+use Rattle.nv_driver.proofs.Words.{QueuePairFields, Request, RequestPlace, Requests, Run, Sent, Status, TailWrite, Tell}
+use Rattle.nv_driver.proofs.Words.{TookNothing, Turn, Write, add-one, all_pages, answer_from, answer_to, answers_to, ap}
+use Rattle.nv_driver.proofs.Words.{arith, awaited_completion, bank_at, buffer_places, collected_one, completion_at}
+use Rattle.nv_driver.proofs.Words.{drop-cons, false, free_pages, from_cid, get_or, get_or_default, greatest_limit}
+use Rattle.nv_driver.proofs.Words.{held_pages, inl, inr, known_to, length, length-append, length-set, length-take}
+use Rattle.nv_driver.proofs.Words.{length_of, min, own_pages, pages_of_all, place_in, places as places_of}
+use Rattle.nv_driver.proofs.Words.{received_from, refl, request_of, set, setting_of, slice_set, slot, slot_of}
+use Rattle.nv_driver.proofs.Words.{state_after_all, step_after, subst, sym, take, take_more, take_more_set, transfer_by}
+use Rattle.nv_driver.proofs.Words.{true, way, with_pages, with_register_at, without, world_of}
 use Rattle.nv_driver.proofs.PointerLaws.{entry_pages_few, own_is, place_of_set}
 use Rattle.nv_driver.proofs.WindowPageLaws.{given_back, gone, taken_first, taken_rest}
 use Rattle.nv_driver.proofs.BatchLaws.{answer_at, answers_are, length-answers, state_is}

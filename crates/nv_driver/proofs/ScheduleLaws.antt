@@ -1,9 +1,9 @@
 -- Bytes that don't change, writes elsewhere, and every schedule.
-use Rattle.nv_driver.proofs.Words.{[], ℕ, ◌++◌, ◌+◌, ◌<◌, ◌∙◌, ◌∷◌, ◌≡◌, ◌≢◌, ◌≤◌, All, AreOthers, Bell, Collect, Cqe}
-use Rattle.nv_driver.proofs.Words.{Elsewhere, Event, EveryScheduleIsSerial, Happens, HasRings, IsSerial, Keeps}
-use Rattle.nv_driver.proofs.Words.{LeavesOutstanding, List, OthersStay, Runs, Sent, Setting, State, Submit, Tell, Turn}
-use Rattle.nv_driver.proofs.Words.{World, answer_awaited, ap, arith, get_or, inl, inr, length, length-append}
-use Rattle.nv_driver.proofs.Words.{page_size_bounds, refl, slot, subst, suc, sym}
+use Rattle.nv_driver.proofs.Words.{[], ℕ, ◌++◌, ◌+◌, ◌<◌, ◌∙◌, ◌∷◌, ◌≡◌, ◌≢◌, ◌≤◌, All, Bell, Collect, Cqe, Elsewhere}
+use Rattle.nv_driver.proofs.Words.{Event, EveryScheduleIsSerial, Happens, HasRings, Keeps, LeavesOutstanding, List}
+use Rattle.nv_driver.proofs.Words.{OthersStay, Runs, Sent, Setting, State, Submit, Tell, Turn, World, answer_awaited}
+use Rattle.nv_driver.proofs.Words.{ap, arith, get_or, inl, inr, length, length-append, page_size_bounds, refl, slot}
+use Rattle.nv_driver.proofs.Words.{subst, suc, sym}
 use Rattle.nv_driver.proofs.SubmitLaws.{submit_keeps, submit_others}
 use Rattle.nv_driver.proofs.TurnLaws.{turn_keeps, turn_leaves, turn_takes}
 use Rattle.nv_driver.proofs.CountLaws.{slot_inside}

@@ -1,9 +1,9 @@
 -- What doesn't change at a submission.
 use Rattle.nv_driver.proofs.Words.{[], ℕ, ◌*◌, ◌++◌, ◌+◌, ◌<◌, ◌∙◌, ◌∷◌, ◌≡◌, ◌≤◌, AreApart, AreOutside, ChangesOnly}
-use Rattle.nv_driver.proofs.Words.{Happens, HasRings, Holds, HoldsSent, IsOwn, IsPrepared, IsReadable, Keeps, List}
-use Rattle.nv_driver.proofs.Words.{MaySubmit, OthersStay, Sent, Setting, SqeFits, State, StaysNamed, Submit}
-use Rattle.nv_driver.proofs.Words.{SubmitNumbers, World, after, answers_to, ap, arith, bytes_at, cases_lt, data_length}
-use Rattle.nv_driver.proofs.Words.{entry, get_or, get_or_append_left, get_or_push, inl, inr, length, length-append}
+use Rattle.nv_driver.proofs.Words.{Happens, HasRings, Holds, HoldsSent, IsOwn, IsPrepared, Keeps, List, MaySubmit}
+use Rattle.nv_driver.proofs.Words.{OthersStay, Sent, Setting, SqeFits, State, StaysNamed, Submit, SubmitNumbers, World}
+use Rattle.nv_driver.proofs.Words.{after, answers_to, ap, arith, bytes_at, cases_lt, data_length, entry, get_or}
+use Rattle.nv_driver.proofs.Words.{get_or_append_left, get_or_push, inl, inr, length, length-append}
 use Rattle.nv_driver.proofs.Words.{length-with_submission, page_size_bounds, places, push_written, refl, rest_distinct}
 use Rattle.nv_driver.proofs.Words.{slot, submission_at, submit_ring, subst, sym, take-append-le, with_submission}
 use Rattle.nv_driver.proofs.CountLaws.{slot_inside, slots_differ}

@@ -1,8 +1,8 @@
 -- The pages of a command, as `build` requires them.
 use Rattle.nv_driver.proofs.Words.{ℕ, ◌%◌, ◌*◌, ◌+◌, ◌-◌, ◌/◌, ◌<◌, ◌^◌, ◌∙◌, ◌≡◌, ◌≤◌, AreDistinct, AreOutside}
 use Rattle.nv_driver.proofs.Words.{ChangesList, CollectNumbers, Geometry, IsBuffer, IsListPlace, IsPageSize, IsPrepared}
-use Rattle.nv_driver.proofs.Words.{IsSubmittedAt, KeepsList, KeepsOutsideList, List, Ok, OnOk, Pages, QueuePairFields}
-use Rattle.nv_driver.proofs.Words.{Request, RequestPlace, Result, Sent, StaysNamed, SubmitNumbers, ap, arith, bytes_at}
+use Rattle.nv_driver.proofs.Words.{IsSubmittedAt, KeepsOutsideList, List, Ok, OnOk, Pages, QueuePairFields, Request}
+use Rattle.nv_driver.proofs.Words.{RequestPlace, Result, Sent, StaysNamed, SubmitNumbers, ap, arith, bytes_at}
 use Rattle.nv_driver.proofs.Words.{bytes_from_host, cases_lt, data_length, div_ceil, div_ceil_times, get_or, inl, inr}
 use Rattle.nv_driver.proofs.Words.{length, length-written_at, mod_below, mul-le-mul_right, own_pages, page_size_bounds}
 use Rattle.nv_driver.proofs.Words.{pages_at, places, pointed, refl, rest_distinct, sent_from, subst, sym, written_at}

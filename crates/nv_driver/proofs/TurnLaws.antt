@@ -1,6 +1,6 @@
 -- What doesn't change in a turn.
 use Rattle.nv_driver.proofs.Words.{[], ℕ, ◌+◌, ◌<◌, ◌∙◌, ◌≡◌, ActiveList, AreOthers, BankTurn, Happens, Keeps, RingsLie}
-use Rattle.nv_driver.proofs.Words.{Scene, Sent, Setting, Site, State, Taken, Takes, Turn, World, ap, arith, bank_with}
+use Rattle.nv_driver.proofs.Words.{Scene, Sent, Setting, Site, State, Taken, Turn, World, ap, arith, bank_with}
 use Rattle.nv_driver.proofs.Words.{bytes_at, device_rings, least, length, ready_bank, refl, request_of, scene, site}
 use Rattle.nv_driver.proofs.Words.{subst, suc, sym, turn_count, turn_count_is, zero}
 use Rattle.nv_driver.proofs.CountLaws.{number_above, number_below}

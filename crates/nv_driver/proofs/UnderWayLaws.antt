@@ -1,23 +1,21 @@
 -- A list of commands while a controller executes it: what holds meanwhile, and submissions.
 use Rattle.nv_driver.proofs.Words.{[], ℕ, ◌%◌, ◌*◌, ◌++◌, ◌+◌, ◌-◌, ◌<◌, ◌∙◌, ◌∷◌, ◌≡◌, ◌≢◌, ◌≤◌, All, AreApart}
 use Rattle.nv_driver.proofs.Words.{AreInOrder, AreLowest, AreTaken, Batch, BusTurn, BusValue, CommandPages, Course}
-use Rattle.nv_driver.proofs.Words.{DoesNext, FromHost, Geometry, HasCollected, HasFreeSlot, HasRoom, IsDue, IsHeld}
-use Rattle.nv_driver.proofs.Words.{IsOf, IsOnWay, IsRequest, IsRunOf, IsSubmittedAt, IsToldInTime, IsUnderWay}
-use Rattle.nv_driver.proofs.Words.{LiesInPages, List, NoData, NumberSet, Pages, QueuePairFields, Request, Requests, Run}
-use Rattle.nv_driver.proofs.Words.{Sent, Submit, TailWrite, ToHost, Transfer, World, Write, all_pages, ap, arith}
-use Rattle.nv_driver.proofs.Words.{both_ways, cid_at, data_count, drop, drop-append-le, free_pages, get_or, get_or-drop}
-use Rattle.nv_driver.proofs.Words.{get_or-set_other, get_or-set_same, greatest_limit, held_pages, len-all_of, length}
-use Rattle.nv_driver.proofs.Words.{length-append, length-drop, length-set, length-take, length_of, limit_of, map_push}
-use Rattle.nv_driver.proofs.Words.{min, mod_below, mul-le-mul_right, next, numbered, numbered_of, own_pages, pages_for}
-use Rattle.nv_driver.proofs.Words.{pages_of_all, place_in, refl, sent_at, sent_in_window, set, setting_of, slot}
-use Rattle.nv_driver.proofs.Words.{slot_of, slots_apart, subst, sym, take, take_more, true, way, without, world_of}
+use Rattle.nv_driver.proofs.Words.{FromHost, Geometry, HasCollected, HasFreeSlot, HasRoom, IsDue, IsHeld, IsOf}
+use Rattle.nv_driver.proofs.Words.{IsRequest, IsRunOf, IsSubmittedAt, IsToldInTime, IsUnderWay, LiesInPages, List}
+use Rattle.nv_driver.proofs.Words.{NoData, NumberSet, Pages, QueuePairFields, Request, Requests, Run, Sent, Submit}
+use Rattle.nv_driver.proofs.Words.{TailWrite, ToHost, Transfer, World, Write, all_pages, ap, arith, both_ways, cid_at}
+use Rattle.nv_driver.proofs.Words.{data_count, drop, drop-append-le, free_pages, get_or, get_or-drop, get_or-set_other}
+use Rattle.nv_driver.proofs.Words.{get_or-set_same, greatest_limit, held_pages, len-all_of, length, length-append}
+use Rattle.nv_driver.proofs.Words.{length-drop, length-set, length-take, length_of, limit_of, map_push, min, mod_below}
+use Rattle.nv_driver.proofs.Words.{mul-le-mul_right, next, numbered, numbered_of, own_pages, pages_for, pages_of_all}
+use Rattle.nv_driver.proofs.Words.{place_in, refl, requests_in, sent_at, sent_in_window, set, setting_of, slot, slot_of}
+use Rattle.nv_driver.proofs.Words.{slots_apart, subst, sym, take, take_more, way, without, world_of}
 use Rattle.nv_driver.proofs.BatchLaws.{length-from_cid, request_at}
 use Rattle.nv_driver.proofs.PointerLaws.{data_fits, first_two, own_is, place_of_set}
 use Rattle.nv_driver.proofs.PageSetLaws.{in_of, is_in, left_in}
-use Rattle.nv_driver.proofs.WindowPageLaws.{few_pages, page_of_one, pages-append, taken_also, taken_len}
-use Rattle.nv_driver.proofs.WindowPageLaws.{without_also}
+use Rattle.nv_driver.proofs.WindowPageLaws.{few_pages, page_of_one, pages-append, taken_also, taken_len, without_also}
 use Rattle.nv_driver.proofs.SubmitLaws.{each_more}
-use Rattle.nv_driver.proofs.Words.{requests_in}
 use Rattle.std.specs.FinMap as map_of
 use Rattle.nv_driver.proofs.OnWayLaws as W
 
@@ -214,6 +212,15 @@ module _ {B : Type 0} {wrote : Write B} {rang : TailWrite B} {turned : BusTurn B
   submits {k} reached all near =
       let xs = u.course.sent in
       let more_sent = length-append xs (new_one ∷ []) in
+      let due : IsDue r u.course.events (world u) (Submit new_one) = (
+        has_collected u all near,
+        omega (arith, u.sent, u.collected, more, below),
+        record {
+          kept = subst (λ n. LiesInPages r n new_one) (sym u.sent) kept_new;
+          taken = subst (λ c. AreTaken (free_pages r c u.course.sent) (own_pages new_one)) (sym u.collected) taken_new;
+          lowest = rw (u.collected, own_new, ← u.left) sub.lowest;
+        },
+      ) in
       record {
         course = course_more;
         on_way = W.submits_on u.on_way sub.one
@@ -222,13 +229,7 @@ module _ {B : Type 0} {wrote : Write B} {rang : TailWrite B} {turned : BusTurn B
             u.page_size (still_inside u) sub.taken.own sub.taken.distinct (all_long ∙ sub.many))
             (λ i d h. (taken_new.own i d h).0)
             (omega arith)
-            (omega (arith, more, u.sent, u.collected, u.begun.geometry.window.2, u.begun.depth)) apart_new
-            ((has_collected u all near, omega (arith, u.sent, u.collected, more, below), record {
-              kept = subst (λ n. LiesInPages r n new_one) (sym u.sent) kept_new;
-              taken = subst (λ c. AreTaken (free_pages r c u.course.sent) (own_pages new_one)) (sym u.collected)
-                  taken_new;
-              lowest = rw (u.collected, own_new, ← u.left) sub.lowest;
-            }), refl);
+            (omega (arith, more, u.sent, u.collected, u.begun.geometry.window.2, u.begun.depth)) apart_new (due, refl);
         awake = λ h. h;
         can = u.can;
         controller = u.controller;

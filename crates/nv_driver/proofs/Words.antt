@@ -4,8 +4,8 @@ pub use Rattle.nv_bits.specs.Numbers.{NumberSet}
 pub use Rattle.nv_bus.proofs.TagLaws.{dword0_tagged, tagged}
 pub use Rattle.nv_bus.proofs.TurnLaws.{can_means, turn_count_is}
 pub use Rattle.nv_bus.specs.Bus.{BusValue, IsBus, bank_at, enabled_in, state_written}
-pub use Rattle.nv_bus.specs.Call.{Call, HasRoom, asked_by, call_of, command_in, data_places, length_of, moves_of}
-pub use Rattle.nv_bus.specs.Call.{places_of, sent_from, within}
+pub use Rattle.nv_bus.specs.Call.{Call, HasRoom, call_of, command_in, data_places, length_of, moves_of, places_of}
+pub use Rattle.nv_bus.specs.Call.{sent_from, within}
 pub use Rattle.nv_bus.specs.Entry.{MovesBy, One, Scene, asked_step, command_result_of, completion_with, scene}
 pub use Rattle.nv_bus.specs.Entry.{status_in, step_unless}
 pub use Rattle.nv_bus.specs.Turn.{BankTurn, RingsLie, Site, Taken, Takes, can_take, ready_bank, site, turn_count}
@@ -42,14 +42,13 @@ pub use Rattle.nv_driver.specs.Request.{Asked, GoesBy, IsReadable, IsRequest, Re
 pub use Rattle.nv_driver.specs.Request.{request_of, sent_for, transfer_for}
 pub use Rattle.nv_driver.specs.Schedule.{AreApart, AreOthers, AreOutside, Bell, ChangesList, Collect, Delivers, Doing}
 pub use Rattle.nv_driver.specs.Schedule.{Elsewhere, Event, EveryScheduleIsSerial, Follows, Happens, Holds, HoldsSent}
-pub use Rattle.nv_driver.specs.Schedule.{IsAnswered, IsIdle, IsPrepared, IsSerial, LeavesOutstanding, MaySubmit}
-pub use Rattle.nv_driver.specs.Schedule.{Numbered, PagesStay, Runs, Sent, Setting, StaysNamed, Submit, Tell, Turn}
-pub use Rattle.nv_driver.specs.Schedule.{World, after, answer_awaited, answer_from, answer_to, answers_of_all}
-pub use Rattle.nv_driver.specs.Schedule.{answers_to, awaited, bank_with, bytes_read, collect_ring, data_length}
-pub use Rattle.nv_driver.specs.Schedule.{device_rings, entry, is_success, least, number, numbered, own_pages, places}
-pub use Rattle.nv_driver.specs.Schedule.{pointed, received_from, slot, state_after_all, step_after, step_of}
-pub use Rattle.nv_driver.specs.Schedule.{submit_ring}
-pub use Rattle.nv_driver.specs.Sending.{GoesOver, Sends, SendsAll}
+pub use Rattle.nv_driver.specs.Schedule.{IsAnswered, IsIdle, IsPrepared, LeavesOutstanding, MaySubmit, Numbered}
+pub use Rattle.nv_driver.specs.Schedule.{PagesStay, Runs, Sent, Setting, StaysNamed, Submit, Tell, Turn, World, after}
+pub use Rattle.nv_driver.specs.Schedule.{answer_awaited, answer_from, answer_to, answers_of_all, answers_to, awaited}
+pub use Rattle.nv_driver.specs.Schedule.{bank_with, bytes_read, collect_ring, data_length, device_rings, entry}
+pub use Rattle.nv_driver.specs.Schedule.{is_success, least, number, numbered, own_pages, places, pointed, received_from}
+pub use Rattle.nv_driver.specs.Schedule.{slot, state_after_all, step_after, step_of, submit_ring}
+pub use Rattle.nv_driver.specs.Sending.{GoesOver, SendsAll}
 pub use Rattle.nv_driver.specs.Settled.{DriverValue, IsSettled, end_of}
 pub use Rattle.nv_driver.specs.Submitting.{RequestPlace, place_in, sent_at}
 pub use Rattle.nv_driver.specs.UnderWay.{AreSendable, Course, DoesNext, HasCollected, IsDue, IsHeld, IsOnWay, IsRunOf}
@@ -101,13 +100,13 @@ pub use Rattle.nv_queue.proofs.SlotLaws.{put_written, slot_within}
 pub use Rattle.nv_queue.proofs.TagLaws.{tag_below_here, tag_there, tags_after}
 pub use Rattle.nv_queue.specs.Numbers.{IsSlotBetween, ahead, distance, first_in_slot, phase_of}
 unfoldable pub use Rattle.nv_queue.specs.Numbers.{kept_number, next, slot_of}
-pub use Rattle.nv_queue.specs.Rings.{CollectNumbers, FetchNumbers, PostNumbers, SubmitNumbers, collected_one, known_to}
-pub use Rattle.nv_queue.specs.Rings.{submitted_one, told_all}
+pub use Rattle.nv_queue.specs.Rings.{CollectNumbers, PostNumbers, SubmitNumbers, collected_one, known_to, submitted_one}
+pub use Rattle.nv_queue.specs.Rings.{told_all}
 pub use Rattle.nv_queue.specs.Slots.{HoldsTags, IsAwaitedThere, awaited_completion, completion_at, posted_as}
 pub use Rattle.nv_queue.specs.Slots.{submission_at, with_completion, with_submission}
 pub use Rattle.nv_register.specs.Readiness.{is_enabled, is_ready}
-pub use Rattle.nv_register.specs.RegisterBank.{can_start, new_bank, new_rings, rung_by, told_by, with_cc, with_high}
-pub use Rattle.nv_register.specs.RegisterBank.{with_low, with_register_at}
+pub use Rattle.nv_register.specs.RegisterBank.{can_start, new_bank, new_rings, with_cc, with_high, with_low}
+pub use Rattle.nv_register.specs.RegisterBank.{with_register_at}
 pub use Rattle.nv_register.specs.declared.register_bank.RegisterBank.{RegisterBank}
 pub use Rattle.std.proofs.Common.{[], ℕ, ◌%◌, ◌&&◌, ◌*◌, ◌++◌, ◌+◌, ◌-◌, ◌/◌, ◌<◌, ◌==◌, ◌^◌, ◌||◌, ◌↔◌, ◌∙◌, ◌∷◌, ◌≡◌}
 pub use Rattle.std.proofs.Common.{◌≢◌, ◌≤◌, ◌⊎◌, All, AllPairs, Bool, Err, IsSome, List, MatchOption, None, Ok, OnOk}

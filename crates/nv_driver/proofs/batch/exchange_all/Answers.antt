@@ -1,10 +1,8 @@
-use Rattle.nv_driver.proofs.Words.{◌<◌, ◌∙◌, ◌≤◌, AreReceived, Batch, IsLeft, KeepsOutside, List, Request, Run}
-use Rattle.nv_driver.proofs.Words.{after_some, ap, arith, length, limit_of, numbered_of, pair_value, refl, rules, side}
-use Rattle.nv_driver.proofs.Words.{state_after_all, subst, sym}
-use Rattle.nv_driver.proofs.EndLaws.{HasEnded, all_collected, begins_all, comes_further, ends_all, run_is}
+use Rattle.nv_driver.proofs.Words.{◌<◌, ◌∙◌, ◌≤◌, Batch, IsLeft, Run, after_some, ap, arith, length, limit_of}
+use Rattle.nv_driver.proofs.Words.{numbered_of, pair_value, rules, side, state_after_all, subst, sym}
+use Rattle.nv_driver.proofs.EndLaws.{all_collected, begins_all, comes_further, ends_all, run_is}
 use Rattle.nv_driver.proofs.RoundLaws.{received_on}
 use Rattle.nv_driver.proofs.UnderWayLaws.{counted}
-use Rattle.nv_driver.proofs.batch.exchange_all.Given.{Over}
 use Rattle.nv_driver.proofs.batch.exchange_all.Goals as goal
 
 pub loop-batch-init : goal.loop-batch-init

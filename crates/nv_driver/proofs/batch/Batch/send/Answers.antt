@@ -1,7 +1,7 @@
-use Rattle.nv_driver.proofs.Words.{[], ℕ, ◌%◌, ◌+◌, ◌<◌, ◌∙◌, ◌≡◌, ◌≤◌, Batch, CommandPages, Geometry, IsPlaceFor}
-use Rattle.nv_driver.proofs.Words.{IsRequest, IsSubmittedAt, List, Request, all_pages, ap, arith, bytes_from_host}
-use Rattle.nv_driver.proofs.Words.{data_count, get_or, get_or-set_same, get_or_default, length, length_of, limit_of}
-use Rattle.nv_driver.proofs.Words.{mod_below, place_in, request_as, set, set-get_or, setting_of, slot, subst, sym}
+use Rattle.nv_driver.proofs.Words.{ℕ, ◌%◌, ◌+◌, ◌<◌, ◌∙◌, ◌≡◌, ◌≤◌, Batch, CommandPages, Geometry, IsRequest, List}
+use Rattle.nv_driver.proofs.Words.{Request, all_pages, ap, arith, bytes_from_host, data_count, get_or, get_or-set_same}
+use Rattle.nv_driver.proofs.Words.{get_or_default, length, length_of, limit_of, mod_below, place_in, request_as, set}
+use Rattle.nv_driver.proofs.Words.{set-get_or, setting_of, slot, sym}
 use Rattle.nv_driver.proofs.PointerLaws.{all_count, data_fits, no_pages, place_of_set}
 use Rattle.nv_driver.proofs.OnWayLaws.{geometry_is, has_bank}
 use Rattle.nv_driver.proofs.RoundLaws.{rings}

@@ -1,14 +1,13 @@
-use Rattle.nv_driver.proofs.Words.{[], ℕ, ◌%◌, ◌*◌, ◌+◌, ◌-◌, ◌<◌, ◌∙◌, ◌≡◌, ◌≢◌, ◌≤◌, All, AreReceived, AreSendable}
-use Rattle.nv_driver.proofs.Words.{Batch, Command, CommandPages, Geometry, IsHeld, IsSendable, IsToldByPace, List}
-use Rattle.nv_driver.proofs.Words.{Pages, QueuePairFields, Request, Sent, all_pages, ap, arith, get_or, get_or-map}
-use Rattle.nv_driver.proofs.Words.{get_or_default, inl, length, length-map, length-take, limit_of, map, min, mod_below}
-use Rattle.nv_driver.proofs.Words.{place_in, refl, request_of, requests_in, set, set-get_or, subst, sym}
+use Rattle.nv_driver.proofs.Words.{ℕ, ◌%◌, ◌*◌, ◌+◌, ◌-◌, ◌<◌, ◌∙◌, ◌≡◌, ◌≤◌, All, AreReceived, AreSendable, Batch}
+use Rattle.nv_driver.proofs.Words.{Command, CommandPages, Geometry, IsHeld, IsSendable, IsToldByPace, List, Pages}
+use Rattle.nv_driver.proofs.Words.{QueuePairFields, Request, Sent, all_pages, ap, arith, get_or, get_or-map, inl}
+use Rattle.nv_driver.proofs.Words.{length, length-map, length-take, limit_of, map, min, place_in, refl, request_of}
+use Rattle.nv_driver.proofs.Words.{requests_in, set-get_or, subst, sym}
 use Rattle.nv_driver.proofs.PointerLaws.{no_pages}
 use Rattle.nv_driver.proofs.OnWayLaws.{can_collect, geometry_is}
-use Rattle.nv_driver.proofs.RoundLaws.{answer_buffer, answers_more, awaits, can_give, collects, count_few, hears}
-use Rattle.nv_driver.proofs.RoundLaws.{command_result_with, held_at, number_inside, received_on, takes, tells_on}
-use Rattle.nv_driver.proofs.RoundLaws.{turns_idly}
-use Rattle.nv_driver.proofs.RoundLaws.{turns_on}
+use Rattle.nv_driver.proofs.RoundLaws.{answer_buffer, answers_more, awaits, can_give, collects, command_result_with}
+use Rattle.nv_driver.proofs.RoundLaws.{count_few, hears, held_at, number_inside, received_on, takes, tells_on}
+use Rattle.nv_driver.proofs.RoundLaws.{turns_idly, turns_on}
 use Rattle.nv_driver.proofs.batch.Batch.turn.Given.{Over}
 use Rattle.nv_driver.proofs.batch.Batch.turn.Goals.{else-self-pace, in-Commands, in-Entry, then-self-pace}
 use Rattle.nv_driver.proofs.batch.Batch.turn.Goals as goal

@@ -1,5 +1,5 @@
-use Rattle.nv_driver.proofs.Words.{◌∙◌, ◌≡◌, IsOf, Pages, all_pages, ap, arith, get_or, length, subst, sym, take}
-use Rattle.nv_driver.proofs.Words.{refl, take-length, take_more, with_pages}
+use Rattle.nv_driver.proofs.Words.{◌∙◌, ◌≡◌, IsOf, Pages, all_pages, ap, arith, get_or, length, refl, subst, sym, take}
+use Rattle.nv_driver.proofs.Words.{take-length, take_more, with_pages}
 use Rattle.nv_driver.proofs.PageSetLaws.{giving_more, not_given}
 use Rattle.nv_driver.proofs.command_pages.CommandPages.give.Goals as goal
 

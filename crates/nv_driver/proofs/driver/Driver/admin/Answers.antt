@@ -1,4 +1,4 @@
-use Rattle.nv_driver.proofs.Words.{◌∙◌, Sends, after_commands, ap, subst}
+use Rattle.nv_driver.proofs.Words.{◌∙◌, after_commands, ap}
 use Rattle.nv_driver.proofs.AdminLaws.{after_first}
 use Rattle.nv_driver.proofs.driver.Driver.admin.Goals as goal
 

@@ -1,12 +1,11 @@
-use Rattle.nv_driver.proofs.Words.{[], ℕ, ◌∙◌, ◌∷◌, CommandPages, Geometry, GoesOver, HasEntryPages, IsReadIn}
-use Rattle.nv_driver.proofs.Words.{IsReceived, List, Pages, QueuePairFields, SendsAll, World, after_some, all_pages, ap}
-use Rattle.nv_driver.proofs.Words.{arith, asked_in, command_result_of, entry_step, get_or, length, limit_of, place_in}
-use Rattle.nv_driver.proofs.Words.{refl, request_for, rules, run_of, subst, sym}
+use Rattle.nv_driver.proofs.Words.{[], ℕ, ◌∙◌, ◌∷◌, Geometry, HasEntryPages, IsReadIn, List, Pages, QueuePairFields}
+use Rattle.nv_driver.proofs.Words.{SendsAll, World, after_some, all_pages, ap, arith, command_result_of, entry_step}
+use Rattle.nv_driver.proofs.Words.{get_or, length, limit_of, place_in, refl, request_for, rules, run_of, subst, sym}
 use Rattle.nv_driver.proofs.PointerLaws.{no_pages}
 use Rattle.nv_driver.proofs.AdminLaws.{HasPair, after_first, cid_is, driver_after, goes_over, left_at, linked_after}
 use Rattle.nv_driver.proofs.AdminLaws.{ready_by, shape_at, value_after}
-use Rattle.nv_driver.proofs.ExchangeLaws.{CanPass, few_pages, its_buffer, left_with, of_entry, own_ready, pages_back}
-use Rattle.nv_driver.proofs.ExchangeLaws.{read_by, received_by, command_result_is}
+use Rattle.nv_driver.proofs.ExchangeLaws.{CanPass, command_result_is, few_pages, its_buffer, left_with, of_entry}
+use Rattle.nv_driver.proofs.ExchangeLaws.{own_ready, pages_back, read_by, received_by}
 use Rattle.nv_driver.proofs.PassthroughLaws.{can_pass, ends_before, more_is, room_stays}
 use Rattle.nv_driver.proofs.driver.Driver.passthrough.Given.{Over}
 use Rattle.nv_driver.proofs.driver.Driver.passthrough.Goals.{After-deref_mut-host}
