@@ -246,7 +246,8 @@ module _ (t : Setting) (s : State) (w : World) (y : Scene) (d : Sent) (k : Keeps
         (number t w.done) x.cid (slot t (w.done + 1)) answer written.here sound
         (delivered_by x.request.asked answer x.request.transfer (places t.page_size x) w.mem one.moved y.bytes sound
         own.can.command one.moves (let size = length-places t.page_size x in
-        record { size = size; inside = λ i below. own.inside i (omega arith); distinct = own.distinct }) own_stays.read));
+        record { size = size; inside = λ i below. own.inside i (omega arith); distinct = own.distinct })
+        own_stays.read));
     cid = ap (λ (q : Cqe). q.cid) written.here;
     head = ap (λ (q : Cqe). q.sq_head) written.here;
   }

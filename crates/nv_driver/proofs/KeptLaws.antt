@@ -152,7 +152,7 @@ collect_keeps t s w w' k (inl there) =
     subst (Keeps t s) (sym there.2) (collected_one t s w there.1 k ((is_found t s w k).0 there.0))
 collect_keeps t s w w' k (inr none) = subst (Keeps t s) (sym none.1) k
 
--- ---- the beginning
+-- ---- a queue pair without outstanding commands
 
 -- a ready controller without outstanding commands is idle
 pub is_idle : (g : Geometry) (b : BusValue) (c : ℕ) (l : QueuePairFields) (now : ℕ) (bytes : List ℕ)

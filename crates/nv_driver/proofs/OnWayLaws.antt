@@ -278,17 +278,14 @@ module _ {B : Type 0} {doing : Doing B} {start on : B} {w : Way} {bus : BusValue
       let own = rw (pace, same) at turn in
       let happens : Happens t (Turn most) world (world_of v bus' mem) =
       (count, rw u.page_size at own.own, refl) in
+      let keeps = turn_keeps t w.run.bus.state most world (world_of v bus' mem) u.keeps happens in
+      let others = turn_others t w.run.bus.state 0 w.run.bytes most world (world_of v bus' mem) u.keeps u.others happens
+      in
+      let banks = set_again w.run.bus.banks bus.banks bus'.banks w.run.controller _ _ u.begun.controller u.banks
+      own.others in
       let ran : Follows doing t (Turn most ∷ w.course.events) (first_world w.run) start (world_of v bus' mem) on' =
       (world, on, u.ran, its_time, happens) in (
-        assumption (
-          ran,
-          page ∙ u.page_size,
-          size ∙ u.size,
-          turn_keeps t w.run.bus.state most world (world_of v bus' mem) u.keeps happens,
-          turn_others t w.run.bus.state 0 w.run.bytes most world (world_of v bus' mem) u.keeps u.others happens,
-          set_again w.run.bus.banks bus.banks bus'.banks w.run.controller _ _ u.begun.controller u.banks own.others,
-          u,
-        ),
+        assumption (ran, page ∙ u.page_size, size ∙ u.size, keeps, others, banks, u),
         omega (arith, turn_takes t w.run.bus.state most world (world_of v bus' mem) u.keeps happens),
       )
 

@@ -1,11 +1,11 @@
 -- Bytes with zeros after them.
-use Rattle.nv_driver.proofs.Words.{[], ℕ, ◌%◌, ◌*◌, ◌++◌, ◌+◌, ◌-◌, ◌/◌, ◌<◌, ◌∙◌, ◌≡◌, ◌≤◌, Bool, FromHost, List}
-use Rattle.nv_driver.proofs.Words.{NoData, ToHost, Transfer, ap, arith, buffer_place, buffer_places, bytes_at}
-use Rattle.nv_driver.proofs.Words.{bytes_to_host, cases_lt, div-eq_of_lt, drop, false, get_or, get_or-bytes_at}
-use Rattle.nv_driver.proofs.Words.{get_or-drop, get_or-map, get_or-table, get_or-take, get_or_past, if◌then◌else◌, inl}
-use Rattle.nv_driver.proofs.Words.{inr, length, length-append, length-drop, length-read_at, length-replicate}
-use Rattle.nv_driver.proofs.Words.{length-table, length-take, length_of, min, mod-eq_of_lt, padded, page_size_bounds}
-use Rattle.nv_driver.proofs.Words.{read_at, received_from, refl, same_number_lists, sym, table, take, true}
+use Rattle.nv_driver.proofs.Words.{[], ℕ, ◌%◌, ◌*◌, ◌++◌, ◌+◌, ◌-◌, ◌/◌, ◌<◌, ◌∙◌, ◌≡◌, ◌≤◌, Bool, List, ToHost}
+use Rattle.nv_driver.proofs.Words.{Transfer, ap, arith, buffer_place, buffer_places, bytes_at, bytes_to_host, cases_lt}
+use Rattle.nv_driver.proofs.Words.{div-eq_of_lt, drop, false, get_or, get_or-bytes_at, get_or-drop, get_or-map}
+use Rattle.nv_driver.proofs.Words.{get_or-table, get_or-take, get_or_past, if◌then◌else◌, inl, inr, length}
+use Rattle.nv_driver.proofs.Words.{length-append, length-drop, length-read_at, length-replicate, length-table}
+use Rattle.nv_driver.proofs.Words.{length-take, length_of, min, mod-eq_of_lt, padded, page_size_bounds, read_at}
+use Rattle.nv_driver.proofs.Words.{received_from, refl, same_number_lists, sym, table, take, true}
 use Rattle.std.proofs.Common.{replicate, slice_index}
 use Rattle.nv_host.proofs.BytesLaws.{length-bytes_at}
 use Rattle.nv_prp.proofs.CopyLaws.{read_part}
@@ -27,13 +27,9 @@ padded_part n at first count m k len bytes out begins few same rest inside is =
     let part = take m (drop first bytes) in
     let all = padded n bytes in
     let size : length part ≡ count = omega (arith, length-take m (drop first bytes), length-drop first bytes) in
-    let long : length out ≡ len = omega (
-      arith,
-      ap (λ (xs : List ℕ). length xs) is,
-      length-append part (replicate k 0),
-      length-replicate {A = ℕ} k 0,
-      size,
-    ) in
+    let whole = ap (λ (xs : List ℕ). length xs) is in
+    let long : length out ≡ len =
+    omega (arith, whole, size, length-append part (replicate k 0), length-replicate {A = ℕ} k 0) in
     let wanted : length (take len (drop at all)) ≡ len =
     omega (arith, length-take len (drop at all), length-drop at all, length-padded n bytes) in
     same_number_lists out (take len (drop at all)) (long ∙ sym wanted)

@@ -200,13 +200,9 @@ written_list page_size x bytes written some enough distinct = record {
         let at = get_or (places page_size x) k 0 in
         let one = place_page page_size x.pages x.offset (data_length x) k some enough (omega arith) in
         let inside = one.is_one in
-        grind (
-          arith,
-          pages_apart page_size (get_or x.pages one.index 0) page
-              (λ same. distinct i (suc (suc one.index)) 0 (omega arith) (omega arith) (sym same)),
-          one.from,
-          one.to,
-        ))
+        let apart = pages_apart page_size (get_or x.pages one.index 0) page
+        (λ same. distinct i (suc (suc one.index)) 0 (omega arith) (omega arith) (sym same)) in
+        grind (arith, apart, one.from, one.to))
 
 -- a part outside a page is apart from the bytes of the page
 beside : (page_size page base n : ℕ) → IsOutside page_size page base n → IsApart base n (page * page_size) page_size

@@ -138,7 +138,8 @@ every_entry limit e bytes low fits =
       fits = fits;
       room = room_of (moves_of greatest_limit e) e refl;
       transfer = λ cid p q m small is.
-          ap moved_by (let_through limit e m low (sym (ap (moves_as limit) (same_decoding (opcode_of e) e cid p q)) ∙ is));
+          ap moved_by (let_through limit e m low
+          (sym (ap (moves_as limit) (same_decoding (opcode_of e) e cid p q)) ∙ is));
       asked = λ cid p q small. ap (λ (r : Result Decoded StatusCode). moves_as limit r
           >>= (λ m. r >>= (λ asked. command_with asked sends))) (same_decoding (opcode_of e) e cid p q);
       sends = length-padded (bytes_from_host (transfer_for e)) bytes;

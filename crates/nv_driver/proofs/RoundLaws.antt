@@ -209,14 +209,9 @@ module _ {B : Type 0} {wrote : Write B} {rang : TailWrite B} {turned : BusTurn B
       count_few =
           let pages = few_of u greatest_limit (λ i d h. room_few _ (u.can i d h).room) kept_here
           (omega (arith, no_more, more)) in
-          omega (
-            arith,
-            pages,
-            ap (λ (ps : List ℕ). length ps) (held_at e).pages,
-            length-take o.count o.numbers,
-            (held_at e).few,
-            entry_pages_few r.geometry.page_size u.begun.geometry.page_size,
-          )
+          let its = held_at e in
+          let most = entry_pages_few r.geometry.page_size u.begun.geometry.page_size in
+          omega (arith, pages, most, its.few, ap (λ (ps : List ℕ). length ps) its.pages, length-take o.count o.numbers)
 
       -- they can be given back
       pub can_give : {s : Pages} → s ≡ l.pages → CanGive s o
@@ -249,7 +244,8 @@ module _ {B : Type 0} {wrote : Write B} {rang : TailWrite B} {turned : BusTurn B
           places
       collects e first back near =
           let window : b.sent ≤ b.collected + 1 + r.geometry.window = omega (arith, u.window) in
-          let all = back ∙ ap (λ (x : QueuePairFields). record x { pages = with_pages x.pages (all_pages (o e)) }) first in
+          let all = back
+          ∙ ap (λ (x : QueuePairFields). record x { pages = with_pages x.pages (all_pages (o e)) }) first in
           record {
             course = record u.course {
               answers = u.course.answers ++ W.answer_next u.on_way awaits ∷ [];
@@ -309,30 +305,23 @@ module _ {B : Type 0} {wrote : Write B} {rang : TailWrite B} {turned : BusTurn B
 
         module _ {at : RequestPlace} {size : ℕ} (e : CommandPages) (its : at ≡ place_in r.geometry (all_pages (o e)))
             (page : size ≡ r.geometry.page_size) where
-          pages_same : all_pages (o e) ≡ kept_here.pages
-          pages_same = (held_at e).pages ∙ own_is kept_here
+          -- its place is that of the request that was sent
+          at_is : at ≡ place_in r.geometry kept_here.pages
+          at_is = its ∙ ap (place_in r.geometry) ((held_at e).pages ∙ own_is kept_here)
 
           -- the data of request q in these pages has the places of the request
           pub places_are : buffer_places size at.pages at.offset (length_of q.transfer)
               ≡ places_of r.geometry.page_size next_one
           places_are =
               let n = length_of q.transfer in
-              cc (
-                page,
-                its ∙ ap (place_in r.geometry) pages_same,
-                ap (λ (x : Sent). buffer_places r.geometry.page_size x.pages x.offset n) kept_here.sent,
-                ap (λ (e : Request). buffer_places r.geometry.page_size next_one.pages next_one.offset
-                    (length_of e.transfer)) same,
-              )
+              let kept = ap (λ (x : Sent). buffer_places r.geometry.page_size x.pages x.offset n) kept_here.sent in
+              let long = ap (λ (e : Request). buffer_places r.geometry.page_size next_one.pages next_one.offset
+              (length_of e.transfer)) same in
+              cc (page, at_is, kept, long)
 
           -- its data lies in its place
           pub answer_buffer : IsBuffer bytes size at.pages at.offset (length_of q.transfer)
-          answer_buffer =
-              rw (
-                page,
-                its ∙ ap (place_in r.geometry) pages_same,
-                ap (λ (e : Request). length_of e.transfer) (sym same),
-              ) own_place.buffer
+          answer_buffer = rw (page, at_is, ap (λ (e : Request). length_of e.transfer) (sym same)) own_place.buffer
 
       module _ {k : Command} (of_run : request_of k ≡ get_or r.requests b.collected (request_of k))
           (sends : IsSendable k) {at : RequestPlace} {size : ℕ} (e : CommandPages)

@@ -78,12 +78,8 @@ module _ {B : Type 0} {wrote : Write B} {rang : TailWrite B} {turned : BusTurn B
   few_of {n} {x} most brief k below =
       let few : length_of x.request.transfer ≤ most =
       rw (request_is k) (brief n x.request (omega (arith, below, u.some))) in
-      omega (
-        arith,
-        ap (λ (ps : List ℕ). length ps) (own_is k),
-        k.many,
-        (data_fits r.geometry (length_of x.request.transfer) most u.begun.geometry few).1,
-      )
+      let own = ap (λ (ps : List ℕ). length ps) (own_is k) in
+      omega (arith, own, k.many, (data_fits r.geometry (length_of x.request.transfer) most u.begun.geometry few).1)
 
   -- there are enough pages for one more request
   pub set_has : {what : Requests} (of : IsRunOf r what) → b.sent < b.collected + r.geometry.window
@@ -189,7 +185,8 @@ module _ {B : Type 0} {wrote : Write B} {rang : TailWrite B} {turned : BusTurn B
   all_held =
       let c = counts u in
       let xs = u.course.sent in
-      ap pages_of_all (drop-append-le b.collected xs (new_one ∷ []) (omega (arith, c.collected, c.done, c.rung, u.sent)))
+      ap pages_of_all (drop-append-le b.collected xs (new_one ∷ [])
+      (omega (arith, c.collected, c.done, c.rung, u.sent)))
       ∙ pages-append (drop b.collected xs) new_one
 
   -- the window keeps the slots of the others, and has one more

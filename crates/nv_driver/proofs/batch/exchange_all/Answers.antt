@@ -23,31 +23,11 @@ turn-requires g c κs within =
     let told = ap (λ (b : Batch). b.told) s.batch in
     let of = c.requires.1.1.1.1.0 in
     let more : c.loop-batch.batch.collected < length g.begun.run.requests =
-    omega (arith, c.loop-batch-test.true, counted of (c.len.ensures _)) in (
-      search rules,
-      (
-        search rules,
-        (
-          of,
-          (
-            s.under_way,
-            (
-              rw collected (received_on c.args.requests c.loop-batch.answers c.loop-batch.host.taken
-                  c.send.new.host.taken (g.M.PagedMemory.bytes c.loop-batch.host.mem)
-                  (g.M.PagedMemory.bytes c.send.new.host.mem) c.loop-batch.host.last c.send.new.host.last of more
-                  i.received),
-              (
-                omega (arith, more, collected),
-                (
-                  omega (arith, sent, collected),
-                  omega (arith, i.near, told, collected),
-                ),
-              ),
-            ),
-          ),
-        ),
-      ),
-    )
+    omega (arith, c.loop-batch-test.true, counted of (c.len.ensures _)) in
+    let got = received_on c.args.requests c.loop-batch.answers c.loop-batch.host.taken c.send.new.host.taken
+    (g.M.PagedMemory.bytes c.loop-batch.host.mem) (g.M.PagedMemory.bytes c.send.new.host.mem) c.loop-batch.host.last
+    c.send.new.host.last of more i.received in
+    (search rules, (search rules, (of, (s.under_way, (rw collected got, (omega arith, (omega arith, omega arith)))))))
 
 pub loop-batch-smaller : goal.loop-batch-smaller
 loop-batch-smaller g c =

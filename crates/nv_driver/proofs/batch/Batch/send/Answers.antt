@@ -64,16 +64,9 @@ take-requires g c =
     let size = ap (λ (q : Geometry). data_count q (length_of c.outgoing-request.result.transfer) + 2) same in
     let all = (data_fits g.begun.run.geometry (length_of c.outgoing-request.result.transfer) of.most
     i.under_way.begun.geometry few).1 in
-    record {
-      few = c.page_count-count.ensures.most;
-      enough = omega (
-        arith,
-        c.page_count-count.ensures.pages,
-        size,
-        all,
-        set_has i.under_way of (has_room g past) (omega (arith, sent, one.0)),
-      );
-    }
+    let pages = set_has i.under_way of (has_room g past) (omega (arith, sent, one.0)) in
+    let count = c.page_count-count.ensures in
+    record { few = count.most; enough = omega (arith, count.pages, size, all, pages) }
 
 -- the pages that were taken are in their slot
 in_slot : (places : List CommandPages) (n : ℕ) (o e : CommandPages) → length places ≡ 16

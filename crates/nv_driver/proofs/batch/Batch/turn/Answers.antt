@@ -52,7 +52,8 @@ returns-then-posted-eq0 g c =
     let u = c.requires.1.1.1.0 in
     let rest = c.requires.1.1.1.1 in
     let e = c.turn-posted.ensures in
-    let pace = ap (λ (q : Geometry). q.pace) (c.geometry.view_is ∙ c.geometry-geometry.ensures ∙ geometry_is u.on_way) in
+    let pace = ap (λ (q : Geometry). q.pace)
+    (c.geometry.view_is ∙ c.geometry-geometry.ensures ∙ geometry_is u.on_way) in
     let some = u.begun.geometry.pace in
     let deep = u.begun.laid.deep in
     let none : c.turn-posted.result ≡ 0 = omega arith in
@@ -74,7 +75,8 @@ loop-init g c =
     let u = c.requires.1.1.1.0 in
     let rest = c.requires.1.1.1.1 in
     let e = c.turn-posted.ensures in
-    let pace = ap (λ (q : Geometry). q.pace) (c.geometry.view_is ∙ c.geometry-geometry.ensures ∙ geometry_is u.on_way) in
+    let pace = ap (λ (q : Geometry). q.pace)
+    (c.geometry.view_is ∙ c.geometry-geometry.ensures ∙ geometry_is u.on_way) in
     let h = turns_on u e.turn e.turned pace e.bus e.len e.page refl rest.1.1.1 rest.1.1.0 refl rest.1.0 refl
     (omega arith) in
     record {
@@ -173,12 +175,8 @@ received_more g c =
             rw w.in-Commands.is all,
           )
       | in-Entry w ↦
-          let zero : n ≡ 0 = omega (
-            arith,
-            number_inside u more,
-            ap (λ (qs : List Request). length qs)
-                (ap (requests_in limit) (sym w.in-Entry.is) ∙ of.requests),
-          ) in
+          let are = ap (requests_in limit) (sym w.in-Entry.is) ∙ of.requests in
+          let zero : n ≡ 0 = omega (arith, number_inside u more, ap (λ (qs : List Request). length qs) are) in
           rw (w.host-is, w.answers-is) (
             refl,
             set-get_or places (n % 16) no_pages,

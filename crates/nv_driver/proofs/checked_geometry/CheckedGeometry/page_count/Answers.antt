@@ -10,9 +10,5 @@ overflow_add-self-inside c =
 
 pub returns-clause-most : goal.returns-clause-most
 returns-clause-most c =
-    omega (
-      arith,
-      few_of_entry (geometry_of c.self.inside) c.bytes-len.result c.self.invariant
-          (omega (arith, c.requires, c.bytes-len.ensures)),
-      c.div_ceil.ensures,
-    )
+    let most = few_of_entry (geometry_of c.self.inside) c.bytes-len.result c.self.invariant
+    (omega (arith, c.requires, c.bytes-len.ensures)) in omega (arith, most, c.div_ceil.ensures)

@@ -2,7 +2,7 @@ use Rattle.nv_driver.proofs.Words.{◌<◌, ◌∙◌, ◌≤◌, ActiveList, Al
 use Rattle.nv_driver.proofs.Words.{after_some, answers_of, ap, arith, get_or, get_or-map, length, length-map, length_of}
 use Rattle.nv_driver.proofs.Words.{limit_bounds, limit_of, map, min, most_bytes, mul-le-mul_right, pages_of_command}
 use Rattle.nv_driver.proofs.Words.{refl, request_of, rules, run_of, state_after, subst, sym, transfer_by}
-use Rattle.nv_driver.proofs.DataLaws.{most, shape}
+use Rattle.nv_driver.proofs.DataLaws.{most, shape as shape_of}
 use Rattle.nv_driver.proofs.EndLaws.{answers_all}
 use Rattle.nv_driver.proofs.RequestLaws.{is_request}
 use Rattle.nv_driver.proofs.AdminLaws.{HasPair, cid_is, driver_after, ends_inside, goes_over, left_at, linked_after}
@@ -33,6 +33,7 @@ exchange_all-requires g c κs within =
     let ready = ready_by pair c.requires.linked in
     let s = (g.B.Bus.meaning c.args.bus.now).state in
     let enough = (limit_bounds s c.args.ctrl ready.bus.state (omega (arith, ready.controller, ready.bus.banks))).0 in
+    let shape = c.index_mut-pair.result.now.geometry in
     let ks = c.args.commands.now in (
       search rules,
       (
@@ -49,15 +50,10 @@ exchange_all-requires g c κs within =
                 sends = c.requires.sends;
                 most = most_bytes;
                 brief = each_of ks (λ q. length_of q.transfer ≤ most_bytes)
-                    (λ i d h. most (transfer_by (get_or ks i d)) (shape (get_or ks i d) (c.requires.sends i d h)));
+                    (λ i d h. most (transfer_by (get_or ks i d)) (shape_of (get_or ks i d) (c.requires.sends i d h)));
                 room =
-                    let few : min c.index_mut-pair.result.now.geometry.window (length (map request_of ks))
-                    ≤ c.index_mut-pair.result.now.geometry.window = omega arith in
-                    omega (
-                      arith,
-                      mul-le-mul_right (pages_of_command c.index_mut-pair.result.now.geometry.page_size) few,
-                      room_by pair,
-                    );
+                    let few : min shape.window (length (map request_of ks)) ≤ shape.window = omega arith in
+                    omega (arith, mul-le-mul_right (pages_of_command shape.page_size) few, room_by pair);
               },
               record { len = c.requires.len ∙ sym (length-map ks request_of); first = refl },
             ),

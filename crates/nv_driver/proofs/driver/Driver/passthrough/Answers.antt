@@ -30,19 +30,9 @@ passes g c = can_pass (its_pair g c) c.swap.ensures.x_after c.requires.room c.re
 pub exchange_all-requires : goal.exchange_all-requires
 exchange_all-requires g c κs within =
     let can = passes g (goal.at.exchange_all-requires g c).After-deref_mut-host in
-    let given = c.args.bytes.now in (
-      search rules,
-      (
-        search rules,
-        (
-          refl,
-          (
-            own_ready given can,
-            (of_entry given can _ refl tt, λ some. absurd (omega arith)),
-          ),
-        ),
-      ),
-    )
+    let given = c.args.bytes.now in
+    let own = own_ready given can in
+    (search rules, (search rules, (refl, (own, (of_entry given can _ refl tt, λ some. absurd (omega arith))))))
 
 pub place-place-requires : goal.place-place-requires
 place-place-requires g c =
