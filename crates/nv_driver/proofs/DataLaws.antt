@@ -45,11 +45,6 @@ most (FromHost n) is = omega (arith, is)
 
 -- ---- what the host sends
 
--- a command whose fields fit has as much data from the host as its transfer says
-pub length-host_data : (k : Command) → CommandFits k
-    → length (host_data_of k) ≡ bytes_from_host (transfer_by k)
-length-host_data k fits = (commands_travel k 0 fits (lit< tt)).sent
-
 -- a list of length 0 is empty
 pub nothing : (xs : List ℕ) → length xs ≡ 0 → xs ≡ []
 nothing [] none = refl
@@ -77,7 +72,7 @@ few_sent k = few_from_host (transfer_by k) refl
 
 -- the data from the host of a command whose fields fit has at most 4,096 bytes
 pub few_data : (k : Command) → CommandFits k → length (host_data_of k) ≤ 4096
-few_data k fits = omega (arith, length-host_data k fits, few_sent k)
+few_data k fits = omega (arith, (commands_travel k 0 fits (lit< tt)).sent, few_sent k)
 
 -- it is written to the beginning of a page, whole or in parts
 pub data_part : (k : Command) (page : List ℕ) (at n : ℕ) → at + n ≤ length (host_data_of k)

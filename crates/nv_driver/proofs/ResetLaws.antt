@@ -16,36 +16,27 @@ use Rattle.nv_driver.proofs.RegisterLaws.{enabled_at, kept_queues}
 abbrev pub zeros : QueuePairFields → List ℕ
 zeros l = replicate (16 * l.completion.depth) 0
 
--- the ring is between the submission ring and the pages
-record RingLies (page_size size : ℕ) (l : QueuePairFields) : Type 0 where
-  pub low : l.submission.base ≤ l.completion.base
-  pub high : l.completion.base + length (zeros l) ≤ (l.pages.first + l.pages.count) * page_size
-  pub inside : l.completion.base + length (zeros l) ≤ size
-
--- the completion ring of a queue pair lies between its submission ring and its pages
-ring_lies : {page_size size : ℕ} {l : QueuePairFields} → IsQuiet l → IsLaid page_size size (pair_value l)
-    → RingLies page_size size l
-ring_lies {l = l} quiet laid =
-    let many = length-replicate {A = ℕ} (16 * l.completion.depth) 0 in omega (arith, laid, quiet.depth)
-
 -- zeroing a completion ring keeps the length of the memory
 pub zeroed_length : {page_size : ℕ} {l : QueuePairFields} (old new : List ℕ) → IsQuiet l
     → IsLaid page_size (length old) (pair_value l)
     → new ≡ with_bytes old l.completion.base (zeros l) → length new ≡ length old
 zeroed_length {l = l} old new quiet laid zeroed =
+    let many = length-replicate {A = ℕ} (16 * l.completion.depth) 0 in
     ap (λ (bs : List ℕ). length bs) zeroed ∙ length-with_bytes old l.completion.base (zeros l)
-    (ring_lies quiet laid).inside
+    (omega (arith, many, laid, quiet.depth))
 
 -- zeroing a completion ring doesn't change bytes outside the queue pair
 pub zeroed_others : {page_size : ℕ} {l : QueuePairFields} (old new : List ℕ) → IsQuiet l
     → IsLaid page_size (length old) (pair_value l)
     → new ≡ with_bytes old l.completion.base (zeros l) → (end : ℕ)
     → KeepsBelow end page_size (pair_value l) old new
-zeroed_others {l = l} old new quiet laid zeroed end from n low apart =
-    let lies = ring_lies quiet laid in
+zeroed_others {page_size} {l} old new quiet laid zeroed end from n low apart =
+    let many = length-replicate {A = ℕ} (16 * l.completion.depth) 0 in
+    let inside : l.completion.base + length (zeros l) ≤ (l.pages.first + l.pages.count) * page_size =
+    omega (arith, many, laid, quiet.depth) in
     ap (λ bs. bytes_at bs from n) zeroed
-    ∙ written_keeps old (zeros l) l.submission.base _ l.completion.base from n lies.low
-    (omega (arith, lies.high, lies.low)) lies.inside apart
+    ∙ written_keeps old (zeros l) l.submission.base _ l.completion.base from n (omega (arith, laid))
+    (omega (arith, inside, laid)) (omega (arith, inside, laid)) apart
 
 -- ---- each enabled one
 

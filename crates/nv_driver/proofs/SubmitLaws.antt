@@ -14,10 +14,6 @@ use Rattle.nv_driver.proofs.PointerLaws.{stays_in}
 use Rattle.nv_driver.proofs.SubmittingLaws.{others_kept}
 use Rattle.nv_driver.proofs.BatchLaws.{answers-append, length-answers}
 
--- the memory after a submission
-abbrev pub mem_after : Setting → World → Sent → List ℕ → List ℕ
-mem_after t w x ready = with_submission ready (submit_ring t (length w.sent) (length w.answers)) (entry x)
-
 -- ---- the schedule goes on
 
 -- what holds for each request from a number on, and for one more, holds for each with that one
@@ -50,9 +46,13 @@ apart_more low xs x each last n m d from later below =
 
 module _ (t : Setting) (s : State) (x : Sent) (w : World) (ready : List ℕ) (k : Keeps t s w) (may : MaySubmit t w x)
     (prepared : IsPrepared t.page_size x w.mem ready) where
+  -- the host's submission ring before the submission
+  abbrev ring : SubmitNumbers
+  ring = submit_ring t (length w.sent) (length w.answers)
+
   -- the schedule after the submission
   abbrev next : World
-  next = record w { mem = mem_after t w x ready; sent = w.sent ++ x ∷ [] }
+  next = record w { mem = with_submission ready ring (entry x); sent = w.sent ++ x ∷ [] }
 
   -- a page has a byte
   some : 0 < t.page_size
@@ -65,10 +65,6 @@ module _ (t : Setting) (s : State) (x : Sent) (w : World) (ready : List ℕ) (k 
   -- the submission ring lies in the memory
   inside : t.sq + 64 * t.depth ≤ length ready
   inside = omega (arith, k.placed.submissions, prepared.len)
-
-  -- the host's submission ring before the submission
-  abbrev ring : SubmitNumbers
-  ring = submit_ring t (length w.sent) (length w.answers)
 
   -- writing the entry keeps the length of the memory
   same_size : length next.mem ≡ length ready
