@@ -74,15 +74,11 @@ dword0_fits : (r : Reply) → FitsRecord r → dword0_of r < 2 ^ 32
 dword0_fits (reply.Number n) fits = fits
 dword0_fits r fits = lit< tt
 
--- a reply that answers what was asked for fits its record
-record_fits : (asked : Asked) (r : Reply) → IsAnswerTo asked (Ok r) → FitsRecord r
-record_fits (Ok k) r is = is.1
-record_fits (Err code) r is = absurd is
-
 -- the completion with such an answer fits its bits
 pub completion_fits : (asked : Asked) (cid head : ℕ) (a : Answer) → cid < 2 ^ 16 → head < 2 ^ 16
     → IsAnswerTo asked a → CqeFits (completion_with cid head a)
-completion_fits asked cid head (Ok r) low below is = omega (arith, dword0_fits r (record_fits asked r is))
+completion_fits (Ok k) cid head (Ok r) low below is = omega (arith, dword0_fits r is.1)
+completion_fits (Err code) cid head (Ok r) low below is = absurd is
 completion_fits asked cid head (Err status) low below is = omega (arith, is.0)
 
 -- ---- what its completion and its data say

@@ -7,12 +7,12 @@ use Rattle.nv_driver.proofs.Words.{NoData, NumberSet, Pages, QueuePairFields, Re
 use Rattle.nv_driver.proofs.Words.{TailWrite, ToHost, Transfer, World, Write, all_pages, ap, arith, both_ways, cid_at}
 use Rattle.nv_driver.proofs.Words.{data_count, drop, drop-append-le, free_pages, get_or, get_or-drop, get_or-set_other}
 use Rattle.nv_driver.proofs.Words.{get_or-set_same, greatest_limit, held_pages, len-all_of, length, length-append}
-use Rattle.nv_driver.proofs.Words.{length-drop, length-set, length-take, length_of, limit_of, map_push, min, mod_below}
+use Rattle.nv_driver.proofs.Words.{length-drop, length-set, length_of, limit_of, map_push, min, mod_below}
 use Rattle.nv_driver.proofs.Words.{mul-le-mul_right, next, numbered, numbered_of, own_pages, pages_for, pages_of_all}
 use Rattle.nv_driver.proofs.Words.{place_in, refl, requests_in, sent_at, sent_in_window, set, setting_of, slot, slot_of}
 use Rattle.nv_driver.proofs.Words.{slots_apart, subst, sym, take, take_more, way, without, world_of}
 use Rattle.nv_driver.proofs.BatchLaws.{length-from_cid, request_at}
-use Rattle.nv_driver.proofs.PointerLaws.{data_fits, first_two, own_is, place_of_set}
+use Rattle.nv_driver.proofs.PointerLaws.{all_count, data_fits, first_two, own_is, place_of_set}
 use Rattle.nv_driver.proofs.PageSetLaws.{in_of, is_in, left_in}
 use Rattle.nv_driver.proofs.WindowPageLaws.{few_pages, page_of_one, pages-append, taken_also, taken_len, without_also}
 use Rattle.nv_driver.proofs.SubmitLaws.{each_more}
@@ -141,11 +141,8 @@ module _ {B : Type 0} {wrote : Write B} {rang : TailWrite B} {turned : BusTurn B
   new_one = sent_at (place_in r.geometry (all_pages o)) q l.next_cid sub.one.prp1 sub.one.prp2
 
   -- it has the pages that were taken
-  all_long : length (all_pages o) ≡ o.count
-  all_long = let h = length-take o.count o.numbers in omega (arith, h, sub.long)
-
   own_new : own_pages new_one ≡ all_pages o
-  own_new = first_two (all_pages o) (omega (arith, all_long, sub.many))
+  own_new = first_two (all_pages o) (omega (arith, all_count o sub.long, sub.many))
 
   -- they were free
   taken_new : AreTaken (free_pages r b.collected u.course.sent) (own_pages new_one)
@@ -157,7 +154,7 @@ module _ {B : Type 0} {wrote : Write B} {rang : TailWrite B} {turned : BusTurn B
   kept_new = record {
     pages = all_pages o;
     sent = cc (is, cid_is u);
-    many = all_long ∙ sub.many;
+    many = all_count o sub.long ∙ sub.many;
     points = record { list = λ m. sub.one.list; one = λ m. sub.one.one; none = sub.one.pointer };
   }
 
@@ -223,7 +220,7 @@ module _ {B : Type 0} {wrote : Write B} {rang : TailWrite B} {turned : BusTurn B
         on_way = W.submits_on u.on_way sub.one
             (subst (λ p. IsRequest (limit_of r.bus.state r.controller) p) (sym is) (u.can b.sent q below))
             (place_of_set r.geometry l.pages (all_pages o) bytes now (length_of q.transfer) u.begun.geometry
-            u.page_size (still_inside u) sub.taken.own sub.taken.distinct (all_long ∙ sub.many))
+            u.page_size (still_inside u) sub.taken.own sub.taken.distinct (all_count o sub.long ∙ sub.many))
             (λ i d h. (taken_new.own i d h).0)
             (omega arith)
             (omega (arith, more, u.sent, u.collected, u.begun.geometry.window.2, u.begun.depth)) apart_new (due, refl);
