@@ -1,28 +1,15 @@
 -- Commands and resets of a driver, over the queue pairs of its controllers.
-use Rattle.nv_driver.proofs.Words.{ℕ, ◌*◌, ◌+◌, ◌-◌, ◌<◌, ◌∙◌, ◌≡◌, ◌≢◌, ◌≤◌, ◌⊎◌, BusValue, Cqe, DriverValue, Geometry}
-use Rattle.nv_driver.proofs.Words.{GoesOver, HoldsTags, IsApart, IsDriver, IsLaid, IsLeft, IsLinked, IsPlaced, IsQuiet}
-use Rattle.nv_driver.proofs.Words.{IsReady, IsSettled, KeepsBelow, List, PagedBytes, Pages, QueuePair, QueuePairFields}
-use Rattle.nv_driver.proofs.Words.{World, after_command, after_commands, ap, arith, bank_at, banks_of, cases_eq}
-use Rattle.nv_driver.proofs.Words.{cases_lt, cqe_of_bytes, driver_value, end_of, get_or, get_or-map, get_or-set_other}
-use Rattle.nv_driver.proofs.Words.{get_or-set_same, get_or_default, idle_bank, inl, inr, length, length-map, length-set}
-use Rattle.nv_driver.proofs.Words.{map, map-set, mps_of, mul-le-mul_right, new_bank, no_pair, page_count, pages_behind}
-use Rattle.nv_driver.proofs.Words.{pages_of_command, pair_at, pair_value, refl, side, slice_set, subst, sym}
-use Rattle.std.proofs.lemmas.List.Elements.{All-set}
-use Rattle.nv_queue.specs.Numbers.{kept_number, next}
-use Rattle.nv_driver.specs.Layout.{set_pages}
-use Rattle.nv_driver.specs.inner.Exchange.{Side}
+use Rattle.nv_driver.proofs.Words.{ℕ, ◌*◌, ◌+◌, ◌-◌, ◌<◌, ◌∙◌, ◌≡◌, ◌≢◌, ◌≤◌, ◌⊎◌, All-set, BusValue, Cqe, DriverValue}
+use Rattle.nv_driver.proofs.Words.{Geometry, GoesOver, HoldsTags, IsApart, IsDriver, IsLaid, IsLeft, IsLinked, IsPlaced}
+use Rattle.nv_driver.proofs.Words.{IsQuiet, IsReady, IsSettled, KeepsBelow, List, PagedBytes, Pages, QueuePair}
+use Rattle.nv_driver.proofs.Words.{QueuePairFields, Side, World, after_command, after_commands, ap, arith, bank_at}
+use Rattle.nv_driver.proofs.Words.{banks_of, cases_eq, cases_lt, cqe_of_bytes, driver_value, end_of, get_or, get_or-map}
+use Rattle.nv_driver.proofs.Words.{get_or-set_other, get_or-set_same, get_or_default, idle_bank, inl, inr, kept_number}
+use Rattle.nv_driver.proofs.Words.{length, length-map, length-set, map, map-set, mps_of, mul-le-mul_right, new_bank}
+use Rattle.nv_driver.proofs.Words.{next, no_pair, page_count, pages_behind, pages_of_command, pair_at, pair_value, refl}
+use Rattle.nv_driver.proofs.Words.{set_pages, side, slice_set, subst, sym}
 
 -- ---- before the command
-
--- a queue pair has the pages of each command of the window
-set_room : (g : Geometry) → set_pages g ≡ g.window * pages_of_command g.page_size
-unfolding set_pages
-set_room g = refl
-
--- the value of queue pair c of a list is element c of the list of values
-pub value_at : (ls : List QueuePairFields) (c : ℕ) (d : QueuePairFields) (e : QueuePair) → c < length ls
-    → get_or (map pair_value ls) c e ≡ pair_value (get_or ls c d)
-value_at ls c d e below = get_or-map pair_value ls c d e below
 
 -- a driver, its value, and the queue pair of a controller
 pub record HasPair (g : Geometry) (mem : PagedBytes) (ls : List QueuePairFields) (more : Pages) (d : DriverValue)
@@ -42,7 +29,7 @@ module _ {g : Geometry} {mem : PagedBytes} {ls : List QueuePairFields} {more : P
 
   -- queue pair c of the driver's value is the value of that queue pair
   pub at : pair_at (map pair_value ls) c ≡ pair_value l
-  at = value_at ls c l no_pair below ∙ ap pair_value (sym h.here)
+  at = get_or-map pair_value ls c l no_pair below ∙ ap pair_value (sym h.here)
 
   -- so is that of the driver
   pub pair_is : pair_at d.pairs c ≡ pair_value l
@@ -104,7 +91,8 @@ module _ {g : Geometry} {mem : PagedBytes} {ls : List QueuePairFields} {more : P
 
   -- its pages are those of each command of the window
   pub room_by : l.pages.count ≡ l.geometry.window * pages_of_command l.geometry.page_size
-  room_by = rw shape_at (ap (λ (v : QueuePair). v.page_count) placed_at ∙ set_room g)
+  unfolding set_pages
+  room_by = rw shape_at (ap (λ (v : QueuePair). v.page_count) placed_at)
 
   -- each queue pair ends within the memory
   pub ends_inside : (i : ℕ) (e : QueuePair) → i < length ls
@@ -185,10 +173,6 @@ module _ {g : Geometry} {mem new : PagedBytes} {ls : List QueuePairFields} {more
     {b b' : BusValue} {c : ℕ} {l l' : QueuePairFields} {n next_cid end : ℕ} (h : HasPair g mem ls more d c l)
     (left : IsLeft g c end (record (pair_value l) { number = n; next_cid = next_cid })
     (side b l mem.page_size mem.bytes) (side b' l' new.page_size new.bytes)) where
-  -- a queue pair with another number and command identifier is still where it was placed
-  stays_placed : (v : QueuePair) → IsPlaced g c v → IsPlaced g c (record v { number = n; next_cid = next_cid })
-  stays_placed v placed = ap (λ (q : QueuePair). record q { number = n; next_cid = next_cid }) placed
-
   -- after a command of controller c, the driver is still one
   pub driver_after : ((i : ℕ) (e : QueuePair) → i < length ls
       → end_of g.page_size (get_or (map pair_value ls) i e) ≤ end) → IsDriver g new (slice_set ls c l') more
@@ -197,7 +181,7 @@ module _ {g : Geometry} {mem new : PagedBytes} {ls : List QueuePairFields} {more
       let vs = map pair_value ls in
       let low = below h in
       let own : pair_value l ≡ get_or vs c (pair_value l) =
-      sym (value_at ls c l (pair_value l) low ∙ ap pair_value (sym h.here)) in
+      sym (get_or-map pair_value ls c l (pair_value l) low ∙ ap pair_value (sym h.here)) in
       let change = map-set pair_value ls c l' in
       let page = left.page ∙ h.is.page_size in
       record {
@@ -209,12 +193,11 @@ module _ {g : Geometry} {mem new : PagedBytes} {ls : List QueuePairFields} {more
         placed = λ i e inside.
             rw change (set_each (λ j v. IsPlaced g j v) vs c (pair_value l') (λ j q high differ. h.is.placed j q
             (omega arith)) (subst (IsPlaced g c) (sym left.pair)
-            (stays_placed (pair_value l) (placed_at h))) i e
+            (ap (λ (q : QueuePair). record q { number = n; next_cid = next_cid }) (placed_at h))) i e
             (let longer = length-set ls c l' in let values = length-set vs c (pair_value l') in omega arith));
         more = h.is.more ∙ ap (λ n. pages_behind g n (page_count mem)) (sym (length-set ls c l'))
             ∙ rw (left.len, left.page) refl;
-        settled = subst (IsSettled new.page_size new.bytes) (sym change)
-            (settled_after end new.page_size mem.bytes new.bytes vs c (pair_value l) (pair_value l')
+        settled = rw change (settled_after end new.page_size mem.bytes new.bytes vs c (pair_value l) (pair_value l')
             (rw (left.page) h.is.settled) (omega arith) own left.len (rw page left.others)
             (rw page (λ i e low. ends i e (omega arith))) (rw (left.ready.page_size) left.ready.laid) left.ready.tags
             (ap (λ (v : QueuePair). v.sq) left.pair) (ap (λ (v : QueuePair). v.first_page) left.pair)

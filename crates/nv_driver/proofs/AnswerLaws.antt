@@ -1,27 +1,22 @@
 -- Answers: that they are sound, how they are read back from a completion and its data, and how they stay.
-use Rattle.nv_driver.proofs.Words.{ℕ, ◌<◌, ◌^◌, ◌∙◌, ◌≡◌, Answer, Asked, Command, Cqe, CqeFits, Delivers, Err, GoesBy}
-use Rattle.nv_driver.proofs.Words.{Holds, IsAnswered, IsReadable, IsWellFormed, List, None, Ok, Option, Sent, Setting}
-use Rattle.nv_driver.proofs.Words.{Some, State, Status, Transfer, World, answer_to, ap, arith, asked_step, bytes_read}
-use Rattle.nv_driver.proofs.Words.{completion_at, completion_with, data_of, false, is_success, length, limit_of, lit<}
-use Rattle.nv_driver.proofs.Words.{nat_tests, places, posted_as, received_as, refl, slot, step_after, subst, sym}
-use Rattle.nv_driver.proofs.Words.{tagged, take}
+use Rattle.nv_driver.proofs.Words.{ℕ, ◌<◌, ◌^◌, ◌∙◌, ◌≡◌, Answer, Asked, Command, Cqe, CqeFits, Delivers, Err}
+use Rattle.nv_driver.proofs.Words.{FitsRecord, GoesBy, Holds, IsAnswered, IsReadable, IsReplyTo, IsWellFormed, List}
+use Rattle.nv_driver.proofs.Words.{None, Ok, Option, Sent, Setting, Some, State, Status, Transfer, World, answer_to, ap}
+use Rattle.nv_driver.proofs.Words.{arith, asked_step, bytes_read, completion_at, completion_with, data_of, dword0_of}
+use Rattle.nv_driver.proofs.Words.{dword0_tagged, false, is_success, length, limit_of, lit<, nat_tests, places}
+use Rattle.nv_driver.proofs.Words.{posted_as, read_at, received_as, refl, refused, refused_limit, replies_travel}
+use Rattle.nv_driver.proofs.Words.{reply_in, slot, step_after, step_by, step_limit, subst, sym, tagged, take}
+use Rattle.nv_driver.proofs.Words.{with_refusal, without_phases}
 use Rattle.nv_layout.specs.Status.{StatusFits}
 use Rattle.nv_command.proofs.RefusalLaws.{is_refusal-refusal_by}
 use Rattle.nv_command.specs.Refusal.{IsRefusal, refusal_by}
-use Rattle.nv_command.specs.Reply.{FitsRecord, IsReplyTo, dword0_of, reply_in}
 use Rattle.nv_command.specs.declared.refusal.Refusal.{Refusal}
 use Rattle.nv_model.specs.Meaning.{refusal_of}
-use Rattle.nv_model.specs.Step.{refused, step_by, with_refusal}
 use Rattle.nv_model.proofs.ChangedAtLaws.{length-changed_at}
-use Rattle.nv_model.proofs.LimitLaws.{refused_limit, step_limit}
 use Rattle.nv_model.proofs.ReplyLaws.{reply_fits}
 use Rattle.nv_model.proofs.StepLaws.{refusal_fits, refused_keeps, step_controllers, step_keeps}
 use Rattle.nv_command.specs.Received.{received}
-use Rattle.nv_command.specs.Logs.{without_phases}
-use Rattle.nv_command.proofs.TravelLaws.{replies_travel}
 use Rattle.nv_command.specs.declared.reply.Reply.{Reply}
-use Rattle.nv_bus.proofs.TagLaws.{dword0_tagged}
-use Rattle.nv_prp.specs.Place.{read_at}
 use Rattle.nv_driver.proofs.DataLaws.{received_same}
 use Rattle.nv_command.specs.declared.reply.Reply.TheVariants as reply
 
@@ -76,36 +71,15 @@ asked_limit (Err code) s c nsid cid d = refused_limit s c nsid cid d (refusal_by
 
 -- dword 0 of a reply that fits its record has 32 bits
 dword0_fits : (r : Reply) → FitsRecord r → dword0_of r < 2 ^ 32
-dword0_fits (reply.Controller r) fits = lit< tt
-dword0_fits (reply.Namespace r) fits = lit< tt
-dword0_fits (reply.List ids) fits = lit< tt
 dword0_fits (reply.Number n) fits = fits
-dword0_fits reply.Done fits = lit< tt
-dword0_fits (reply.Errors es) fits = lit< tt
-dword0_fits (reply.Smart r) fits = lit< tt
-
--- a reply that answers what was asked for fits its record
-record_fits : (asked : Asked) (r : Reply) → IsAnswerTo asked (Ok r) → FitsRecord r
-record_fits (Ok k) r is = is.1
-record_fits (Err code) r is = absurd is
+dword0_fits r fits = lit< tt
 
 -- the completion with such an answer fits its bits
 pub completion_fits : (asked : Asked) (cid head : ℕ) (a : Answer) → cid < 2 ^ 16 → head < 2 ^ 16
     → IsAnswerTo asked a → CqeFits (completion_with cid head a)
-completion_fits asked cid head (Ok r) low below is = record {
-  command_specific = dword0_fits r (record_fits asked r is);
-  sq_head = below;
-  sq_identifier = lit< tt;
-  cid = low;
-  status = record { sc = lit< tt; sct = lit< tt; crd = lit< tt };
-}
-completion_fits asked cid head (Err status) low below is = record {
-  command_specific = lit< tt;
-  sq_head = below;
-  sq_identifier = lit< tt;
-  cid = low;
-  status = is.0;
-}
+completion_fits (Ok k) cid head (Ok r) low below is = omega (arith, dword0_fits r is.1)
+completion_fits (Err code) cid head (Ok r) low below is = absurd is
+completion_fits asked cid head (Err status) low below is = omega (arith, is.0)
 
 -- ---- what its completion and its data say
 
@@ -138,21 +112,6 @@ answered page_size x mem c depth n cid head a here is delivered = record {
 
 -- ---- answers that are held while the memory and the schedule change
 
--- an answer is held as long as its completion and its data don't change
-answered_on : (page_size : ℕ) (x : Sent) (old new : List ℕ) (c e : Cqe) (a : Answer) → e ≡ c
-    → read_at new (places page_size x) ≡ read_at old (places page_size x)
-    → IsAnswered page_size x old c a → IsAnswered page_size x new e a
-answered_on page_size x old new c e a same bytes is =
-    let came : bytes_read page_size x new ≡ bytes_read page_size x old =
-    received_same x.request.transfer old new (places page_size x) bytes in
-    record {
-      dword0 = ap (λ (q : Cqe). q.command_specific) same ∙ is.dword0;
-      status = ap (λ (q : Cqe). q.status) same ∙ is.status;
-      bytes = subst (Delivers x.request.asked a) (sym came) is.bytes;
-      reads = λ can. ap (λ q. answer_to x.request.asked q (bytes_read page_size x new)) same
-          ∙ ap (answer_to x.request.asked c) came ∙ is.reads can;
-    }
-
 -- an answer that is held stays so if its completion, its data and the requests up to it don't change
 pub holds_on : (t : Setting) (s : State) (w v : World) (n : ℕ) (x : Sent)
     → completion_at v.mem t.cq (slot t n) ≡ completion_at w.mem t.cq (slot t n)
@@ -160,10 +119,17 @@ pub holds_on : (t : Setting) (s : State) (w v : World) (n : ℕ) (x : Sent)
     → take n v.sent ≡ take n w.sent
     → Holds t s w n x → Holds t s v n x
 holds_on t s w v n x completion bytes before h =
-    let stays = answered_on t.page_size x w.mem v.mem _ _ (step_after t.controller s w.sent n x).answer completion bytes
-    h.answer in
+    let answer = h.answer in
+    let came : bytes_read t.page_size x v.mem ≡ bytes_read t.page_size x w.mem =
+    received_same x.request.transfer w.mem v.mem (places t.page_size x) bytes in
     record {
-      answer = rw before stays;
+      answer = rw before (record {
+        dword0 = ap (λ (q : Cqe). q.command_specific) completion ∙ answer.dword0;
+        status = ap (λ (q : Cqe). q.status) completion ∙ answer.status;
+        bytes = subst (Delivers x.request.asked (step_after t.controller s w.sent n x).answer) (sym came) answer.bytes;
+        reads = λ can. ap (λ q. answer_to x.request.asked q (bytes_read t.page_size x v.mem)) completion
+            ∙ ap (answer_to x.request.asked (completion_at w.mem t.cq (slot t n))) came ∙ answer.reads can;
+      });
       cid = ap (λ (c : Cqe). c.cid) completion ∙ h.cid;
       head = ap (λ (c : Cqe). c.sq_head) completion ∙ h.head;
     }

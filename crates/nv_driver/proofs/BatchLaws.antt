@@ -1,10 +1,9 @@
 -- Requests one at a time: their answers, the state after them, and those of a list of requests.
-use Rattle.nv_driver.proofs.Words.{[], ℕ, ◌%◌, ◌++◌, ◌+◌, ◌<◌, ◌∙◌, ◌∷◌, ◌≡◌, ◌≤◌, Answer, List, Request, Sent, State}
-use Rattle.nv_driver.proofs.Words.{add-one, after, answers_of_all, answers_to, ap, arith, cid_after, from_cid, get_or}
-use Rattle.nv_driver.proofs.Words.{length, length-map, map, mod_below, numbered, numbered_request, received_as, refl}
-use Rattle.nv_driver.proofs.Words.{state_after_all, step_after, step_of, suc, sym, take, zero}
-use Rattle.std.proofs.lemmas.List.{take-map, take-take}
-use Rattle.nv_driver.specs.Schedule.{Numbered}
+use Rattle.nv_driver.proofs.Words.{[], ℕ, ◌%◌, ◌++◌, ◌+◌, ◌<◌, ◌∙◌, ◌∷◌, ◌≡◌, ◌≤◌, Answer, List, Numbered, Request}
+use Rattle.nv_driver.proofs.Words.{Sent, State, add-one, after, answers_of_all, answers_to, ap, arith, cid_after}
+use Rattle.nv_driver.proofs.Words.{from_cid, get_or, length, length-map, map, mod_below, numbered, numbered_request}
+use Rattle.nv_driver.proofs.Words.{received_as, refl, state_after_all, step_after, step_of, suc, sym, take, take-map}
+use Rattle.nv_driver.proofs.Words.{take-take, zero}
 
 -- ---- requests that were sent
 
@@ -72,18 +71,16 @@ length-from_cid next_cid (q ∷ qs) = ap suc (length-from_cid (cid_after next_ci
 
 -- the first n numbered requests are the first n requests, numbered
 take-from_cid : (n next_cid : ℕ) (qs : List Request) → take n (from_cid next_cid qs) ≡ from_cid next_cid (take n qs)
-take-from_cid zero next_cid qs = refl
-take-from_cid (suc n) next_cid [] = refl
 take-from_cid (suc n) next_cid (q ∷ qs) =
     ap (λ xs. numbered_request q next_cid ∷ xs) (take-from_cid n (cid_after next_cid) qs)
+take-from_cid n next_cid qs = refl
 
 -- the first n answers are the answers to the first n requests
 take-answers : (n c : ℕ) (s : State) (xs : List Numbered)
     → take n (answers_of_all c s xs) ≡ answers_of_all c s (take n xs)
-take-answers zero c s xs = refl
-take-answers (suc n) c s [] = refl
 take-answers (suc n) c s (x ∷ xs) =
     ap (λ ys. received_as x.asked (step_of c s x).answer ∷ ys) (take-answers n c (step_of c s x).state xs)
+take-answers n c s xs = refl
 
 -- the requests that were sent are the first m of a list
 module _ (next_cid : ℕ) (qs : List Request) (xs : List Sent) (m : ℕ)

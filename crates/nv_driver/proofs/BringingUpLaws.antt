@@ -1,8 +1,8 @@
 -- The calls of bringing up, put together.
-use Rattle.std.proofs.Common.{◌≡◌, ◌∙◌, ℕ, ◌+◌, ◌-◌, ◌*◌, ◌/◌, ◌%◌, ◌^◌, List, true, add-one, subst, sym}
+use Rattle.nv_driver.proofs.Words.{ℕ, ◌%◌, ◌*◌, ◌+◌, ◌-◌, ◌/◌, ◌^◌, ◌∙◌, ◌≡◌, Configures, Enables, EnablesFirst}
+use Rattle.nv_driver.proofs.Words.{Geometry, IsQuiet, List, QueuePair, QueuePairFields, Read, SetsQueues, Write, Zeroes}
+use Rattle.nv_driver.proofs.Words.{add-one, pair_of, subst, sym, true}
 use Rattle.std.specs.Prelude.{Err, MatchResult, Ok, Result}
-use Rattle.nv_driver.proofs.Words.{Geometry, IsQuiet, QueuePair, QueuePairFields, pair_of}
-use Rattle.nv_driver.specs.BringingUp.{Configures, Enables, EnablesFirst, Read, SetsQueues, Write, Zeroes}
 use Rattle.nv_driver.specs.inner.BringingUp.{GivesUp}
 
 pub sets_queues : {B : Type 0} (wrote : Write B) (c : ℕ) (l : QueuePair) (x s1 s2 q1 q2 : ℕ)
@@ -15,13 +15,9 @@ sets_queues wrote c l x s1 s2 q1 q2 {old} {aqa} {low} {asq} {behind} {new} is lo
     first second third fourth fifth = (
       aqa,
       asq,
-      subst (λ v. wrote old c 0x24 v aqa) is first,
-      (low, subst (λ v. wrote aqa c 0x28 v low) low_is second, subst (λ v. wrote low c 0x2c v asq) high_is third),
-      (
-        behind,
-        subst (λ v. wrote asq c 0x30 v behind) first_is fourth,
-        subst (λ v. wrote behind c 0x34 v new) second_is fifth,
-      ),
+      rw is at first,
+      (low, rw low_is at second, rw high_is at third),
+      (behind, rw first_is at fourth, rw second_is at fifth),
     )
 
 -- what follows from the calls that set EN, with the CC of the geometry, whether RDY became 1 or not
@@ -41,8 +37,7 @@ pub zeroes_own : {B : Type 0} (zeroed : Zeroes B) (g : Geometry) (c : ℕ) {l : 
     → zeroed off l.completion.base l.completion.depth before after
     → zeroed off (pair_of g c).cq g.depth before after
 zeroes_own zeroed g c {l} {off} {before} {after} quiet base depth was =
-    subst (λ d. zeroed off (pair_of g c).cq d before after) (quiet.depth ∙ depth)
-    (subst (λ x. zeroed off x l.completion.depth before after) base was)
+    rw (base, quiet.depth ∙ depth) at was
 
 pub one_more : {B : Type 0} (wrote : Write B) (read : Read B) (zeroed : Zeroes B) (g : Geometry) (n : ℕ)
     (old mid new : B) (before between after : List ℕ) → EnablesFirst wrote read zeroed g n old before mid between
@@ -56,4 +51,4 @@ pub same_geometry : {B : Type 0} (wrote : Write B) (read : Read B) (zeroed : Zer
     (old new : B) (before after : List ℕ) → g ≡ h → EnablesFirst wrote read zeroed g n old before new after
     → EnablesFirst wrote read zeroed h n old before new after
 same_geometry wrote read zeroed g h n old new before after same first =
-    subst (λ q. EnablesFirst wrote read zeroed q n old before new after) same first
+    rw (← same) first

@@ -1,12 +1,9 @@
 -- The counts of a schedule, and how rings and doorbells represent them.
-use Rattle.std.proofs.Common.{◌≡◌, ◌≢◌, ◌∙◌, ℕ, ◌+◌, ◌-◌, ◌*◌, ◌<◌, ◌≤◌, true, nat_le, nat_lt, ap, arith, refl, sym}
-use Rattle.nv_queue.specs.Numbers.{IsSlotBetween, ahead, distance, kept_number, next}
+use Rattle.nv_driver.proofs.Words.{ℕ, ◌*◌, ◌+◌, ◌-◌, ◌<◌, ◌∙◌, ◌≡◌, ◌≢◌, ◌≤◌, IsSlotBetween, Setting, ahead, ap, arith}
+use Rattle.nv_driver.proofs.Words.{bank_with, between_kept, device_rings, distance, distance_kept, first_kept}
+use Rattle.nv_driver.proofs.Words.{kept_below, kept_next, kept_number, nat_le, nat_lt, nat_tests, next, number, refl}
+use Rattle.nv_driver.proofs.Words.{slot, slot_kept, slots_apart, sym, true, with_register_at}
 use Rattle.nv_queue.proofs.NumberLaws.{distance_cases, slot_below}
-use Rattle.nv_queue.proofs.KeptLaws.{between_kept, distance_kept, first_kept, kept_below, kept_next, slot_kept}
-use Rattle.nv_queue.proofs.KeptLaws.{slots_apart}
-use Rattle.nv_queue.specs.Rings.{FetchNumbers, PostNumbers}
-use Rattle.nv_register.specs.RegisterBank.{rung_by, told_by}
-use Rattle.nv_driver.proofs.Words.{Setting, bank_with, device_rings, nat_tests, number, slot, with_register_at}
 
 -- the number of a command is below twice the depth
 pub number_below : (t : Setting) (n : ℕ) → 0 < t.depth → number t n < 2 * t.depth
@@ -44,29 +41,21 @@ numbers_differ t n m l h = λ same.
 
 -- ---- doorbells
 
--- the device takes the tail after m commands, if fewer than a depth of them weren't executed
-rung_is : (t : Setting) (rung done m : ℕ) → done ≤ m → m < done + t.depth
-    → rung_by (record { base = t.sq; depth = t.depth; fetched = number t done; rung = number t rung }) (slot t m)
-    ≡ record { base = t.sq; depth = t.depth; fetched = number t done; rung = number t m }
-rung_is t rung done m l h =
+-- the tail for the commands that were sent is accepted, if fewer than a depth of them weren't executed
+pub tail_rung : (t : Setting) (rung done told m : ℕ) → done ≤ m → m < done + t.depth
+    → with_register_at (bank_with t (device_rings t rung done told)) 0x1000 (slot t m) ≡ bank_with t
+    (device_rings t m done told)
+tail_rung t rung done told m l h =
     let inside = slot_inside t m (omega arith) in
     let first = first_kept t.depth (t.start + m) (t.start + done) (m - done) (omega arith) (omega arith) in
     let is_slot : nat_lt (slot t m) t.depth ≡ true = grind (arith, nat_tests, inside) in
     rw (is_slot, first) refl
 
--- the tail for the commands that were sent is accepted
-pub tail_rung : (t : Setting) (rung done told m : ℕ) → done ≤ m → m < done + t.depth
-    → with_register_at (bank_with t (device_rings t rung done told)) 0x1000 (slot t m) ≡ bank_with t
-    (device_rings t m done told)
-tail_rung t rung done told m l h =
-    ap (λ (r : FetchNumbers). bank_with t (record (device_rings t rung done told)
-    { submission = r })) (rung_is t rung done m l h)
-
--- the device takes the head after k answers, if it comes after the head before and up to what was posted
-told_is : (t : Setting) (done told k : ℕ) → told ≤ k → k ≤ done → done < told + t.depth
-    → told_by (record { base = t.cq; depth = t.depth; posted = number t done; told = number t told }) (slot t k)
-    ≡ record { base = t.cq; depth = t.depth; posted = number t done; told = number t k }
-told_is t done told k l m h =
+-- the head after k answers is accepted, if it comes after the head before and up to what was posted
+pub head_told : (t : Setting) (rung done told k : ℕ) → told ≤ k → k ≤ done → done < told + t.depth
+    → with_register_at (bank_with t (device_rings t rung done told)) 0x1004 (slot t k) ≡ bank_with t
+    (device_rings t rung done k)
+head_told t rung done told k l m h =
     let between : IsSlotBetween t.depth (number t told) (number t done) (slot t k) =
     between_kept t.depth (t.start + told) (k - told) (done - told) (t.start + k) (t.start + done)
     (omega arith) (omega arith) (omega arith) (omega arith) in
@@ -76,11 +65,3 @@ told_is t done told k l m h =
     (distance t.depth (number t done) (number t told)) ≡ true =
     grind (arith, nat_tests, between.1) in
     rw (is_slot, is_near, first) refl
-
--- the head for the answers that were collected is accepted
-pub head_told : (t : Setting) (rung done told k : ℕ) → told ≤ k → k ≤ done → done < told + t.depth
-    → with_register_at (bank_with t (device_rings t rung done told)) 0x1004 (slot t k) ≡ bank_with t
-    (device_rings t rung done k)
-head_told t rung done told k l m h =
-    ap (λ (r : PostNumbers). bank_with t (record (device_rings t rung done told)
-    { completion = r })) (told_is t done told k l m h)

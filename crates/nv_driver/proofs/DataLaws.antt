@@ -1,20 +1,14 @@
 -- The data of a command: none, a page from the host, or up to 16,384 bytes from the controller.
-use Rattle.std.proofs.Common.{◌≡◌, ◌∙◌, ◌*◌, ◌<◌, ◌≤◌, ℕ, true, List, [], ◌∷◌, ◌++◌, ap, append-nil, arith}
-use Rattle.std.proofs.Common.{◌+◌, drop, get_or, length, length-drop, lit<, lit≤, refl, sym, take}
-use Rattle.std.proofs.lemmas.List.{drop-append-le, take-append-le, take_all}
-use Rattle.nv_prp.specs.Place.{read_at, written_at}
-use Rattle.nv_prp.proofs.PlaceLaws.{read_written}
-use Rattle.nv_command.specs.Command.{CommandFits, host_data_of}
-use Rattle.nv_command.specs.Logs.{IsSendable, IsWhole}
+use Rattle.nv_driver.proofs.Words.{[], ℕ, ◌*◌, ◌++◌, ◌+◌, ◌<◌, ◌∙◌, ◌∷◌, ◌≡◌, ◌≤◌, AreDistinct, Command, CommandFits}
+use Rattle.nv_driver.proofs.Words.{FromHost, GetLog, IsSendable, IsWhole, List, NoData, ToHost, Transfer, ap}
+use Rattle.nv_driver.proofs.Words.{append-nil, arith, bytes_from_host, bytes_to_host, commands_travel, drop}
+use Rattle.nv_driver.proofs.Words.{drop-append-le, get_or, host_data_of, length, length-drop, length_of, lit<, lit≤}
+use Rattle.nv_driver.proofs.Words.{read_at, read_written, received_from, refl, sent_from, sym, take, take-append-le}
+use Rattle.nv_driver.proofs.Words.{take_all, transfer_by, true, with_data, written_at}
 use Rattle.nv_command.specs.LogPage.{log_asked}
 use Rattle.nv_command.specs.declared.log_page.LogPage.{LogPage}
 use Rattle.nv_command.specs.declared.log_page.LogPage.TheVariants.{ErrorInformation, Health}
-use Rattle.nv_command.specs.Reply.{with_data}
 use Rattle.nv_command.proofs.FormLaws.{a_page, at_most_a_page}
-use Rattle.nv_command.proofs.TravelLaws.{commands_travel}
-use Rattle.nv_command.specs.declared.command.Command.TheVariants.{GetLog}
-use Rattle.nv_driver.proofs.Words.{AreDistinct, Command, FromHost, NoData, ToHost, Transfer, bytes_from_host}
-use Rattle.nv_driver.proofs.Words.{bytes_to_host, length_of, received_from, sent_from, transfer_by}
 
 -- ---- by commands
 
@@ -51,11 +45,6 @@ most (FromHost n) is = omega (arith, is)
 
 -- ---- what the host sends
 
--- a command whose fields fit has as much data from the host as its transfer says
-pub length-host_data : (k : Command) → CommandFits k
-    → length (host_data_of k) ≡ bytes_from_host (transfer_by k)
-length-host_data k fits = (commands_travel k 0 fits (lit< tt)).sent
-
 -- a list of length 0 is empty
 pub nothing : (xs : List ℕ) → length xs ≡ 0 → xs ≡ []
 nothing [] none = refl
@@ -73,9 +62,8 @@ none_written bytes at xs none = sym (ap (written_at bytes at) (nothing xs none) 
 
 -- data of at most a page has at most 4,096 bytes from the host
 few_from_host : (m : Transfer) → at_most_a_page m ≡ true → bytes_from_host m ≤ 4096
-few_from_host NoData is = lit≤ tt
-few_from_host (ToHost n) is = lit≤ tt
 few_from_host (FromHost n) is = omega (arith, a_page n is)
+few_from_host m is = lit≤ tt
 
 -- every command has at most a page of data from the host
 few_sent : (k : Command) → bytes_from_host (transfer_by k) ≤ 4096
@@ -84,7 +72,7 @@ few_sent k = few_from_host (transfer_by k) refl
 
 -- the data from the host of a command whose fields fit has at most 4,096 bytes
 pub few_data : (k : Command) → CommandFits k → length (host_data_of k) ≤ 4096
-few_data k fits = omega (arith, length-host_data k fits, few_sent k)
+few_data k fits = omega (arith, (commands_travel k 0 fits (lit< tt)).sent, few_sent k)
 
 -- it is written to the beginning of a page, whole or in parts
 pub data_part : (k : Command) (page : List ℕ) (at n : ℕ) → at + n ≤ length (host_data_of k)
@@ -111,16 +99,14 @@ data_whole k page at n fits size whole inside =
 -- if the bytes that are read don't change, neither does what is sent or received
 pub sent_same : (m : Transfer) (old new at : List ℕ) → read_at new at ≡ read_at old at
     → sent_from m new at ≡ sent_from m old at
-sent_same NoData old new at same = refl
-sent_same (ToHost n) old new at same = refl
 sent_same (FromHost n) old new at same = same
+sent_same m old new at same = refl
 
 -- if the bytes that are read don't change, what is received doesn't
 pub received_same : (m : Transfer) (old new at : List ℕ) → read_at new at ≡ read_at old at
     → received_from m new at ≡ received_from m old at
-received_same NoData old new at same = refl
 received_same (ToHost n) old new at same = same
-received_same (FromHost n) old new at same = refl
+received_same m old new at same = refl
 
 -- distinct places in a memory of this size for the data of a transfer
 pub record ArePlaces (m : Transfer) (memory : ℕ) (at : List ℕ) : Type 0 where
@@ -131,15 +117,11 @@ pub record ArePlaces (m : Transfer) (memory : ℕ) (at : List ℕ) : Type 0 wher
 -- what the host writes to the places of a transfer is what the controller reads there
 pub sent_back : (m : Transfer) (bytes at xs : List ℕ) → ArePlaces m (length bytes) at
     → length xs ≡ bytes_from_host m → sent_from m (written_at bytes at xs) at ≡ xs
-sent_back NoData bytes at xs p len = sym (nothing xs len)
-sent_back (ToHost n) bytes at xs p len = sym (nothing xs len)
-sent_back (FromHost n) bytes at xs p len =
-    read_written bytes at xs (p.size ∙ sym len) p.inside p.distinct
+sent_back (FromHost n) bytes at xs p len = read_written bytes at xs (p.size ∙ sym len) p.inside p.distinct
+sent_back m bytes at xs p len = sym (nothing xs len)
 
 -- what the controller writes to the places of a transfer is received there
 pub received_back : (m : Transfer) (bytes at xs : List ℕ) → ArePlaces m (length bytes) at
     → length xs ≡ bytes_to_host m → received_from m (written_at bytes at xs) at ≡ xs
-received_back NoData bytes at xs p len = sym (nothing xs len)
-received_back (ToHost n) bytes at xs p len =
-    read_written bytes at xs (p.size ∙ sym len) p.inside p.distinct
-received_back (FromHost n) bytes at xs p len = sym (nothing xs len)
+received_back (ToHost n) bytes at xs p len = read_written bytes at xs (p.size ∙ sym len) p.inside p.distinct
+received_back m bytes at xs p len = sym (nothing xs len)

@@ -1,24 +1,17 @@
 -- The effect of taking one entry in a turn, and what doesn't change.
 use Rattle.nv_driver.proofs.Words.{[], ℕ, ◌*◌, ◌+◌, ◌-◌, ◌<◌, ◌∙◌, ◌≡◌, ◌≢◌, ◌≤◌, Answer, AreApart, AreOthers}
 use Rattle.nv_driver.proofs.Words.{AreOutside, Asked, Call, ChangesOnly, Cqe, CqeFits, Delivers, Err, GoesBy, HasRings}
-use Rattle.nv_driver.proofs.Words.{Holds, HoldsTags, IsAnswered, IsOwn, IsWellFormed, Keeps, KeepsList, List, Ok}
-use Rattle.nv_driver.proofs.Words.{Result, Scene, Sent, Setting, Sqe, State, StatusCode, StaysNamed, Takes, Transfer}
-use Rattle.nv_driver.proofs.Words.{World, ap, arith, asked_step, bank_with, bytes_at, bytes_to_host, call_of, cases_eq}
-use Rattle.nv_driver.proofs.Words.{cases_lt, completion_at, completion_with, data_of, device_rings, distance, entry}
-use Rattle.nv_driver.proofs.Words.{get_or, get_or_default, inl, inr, length, length-written_at, limit_of, number}
-use Rattle.nv_driver.proofs.Words.{numbered, page_size_bounds, places, pointed, posted_as, received_from, refl, scene}
-use Rattle.nv_driver.proofs.Words.{slot, step_of, subst, sym, tagged, true, with_completion}
-use Rattle.nv_prp.specs.Place.{read_at, written_at}
+use Rattle.nv_driver.proofs.Words.{Holds, IsOwn, Keeps, KeepsList, List, MovesBy, Ok, One, Result, Scene, Sent, Setting}
+use Rattle.nv_driver.proofs.Words.{Sqe, State, StatusCode, StaysNamed, Step, Takes, Transfer, World, ap, arith}
+use Rattle.nv_driver.proofs.Words.{asked_step, bank_with, bytes_at, bytes_to_host, call_of, can_means, can_take}
+use Rattle.nv_driver.proofs.Words.{cases_eq, cases_lt, command_in, completion_at, completion_with, data_of}
+use Rattle.nv_driver.proofs.Words.{device_rings, distance, entry, get_or, get_or_default, inl, inr, length}
+use Rattle.nv_driver.proofs.Words.{length-with_completion, length-written_at, limit_of, number, numbered}
+use Rattle.nv_driver.proofs.Words.{page_size_bounds, places, pointed, posted_as, put_written, read_at, received_from}
+use Rattle.nv_driver.proofs.Words.{refl, replies_fit, scene, slot, step_of, step_unless, subst, sym, tagged, tags_after}
+use Rattle.nv_driver.proofs.Words.{true, with_completion, written_at}
 use Rattle.nv_queue.specs.inner.Slots.{WritesCompletion}
-use Rattle.nv_queue.proofs.SlotLaws.{length-with_completion, put_written}
-use Rattle.nv_queue.proofs.TagLaws.{tags_after}
-use Rattle.nv_command.proofs.TravelLaws.{replies_fit}
 use Rattle.nv_register.specs.declared.rings.Rings.{Rings}
-use Rattle.nv_model.specs.Step.{Step}
-use Rattle.nv_bus.specs.Call.{command_in}
-use Rattle.nv_bus.specs.Entry.{MovesBy, One, step_unless}
-use Rattle.nv_bus.proofs.TurnLaws.{can_means}
-use Rattle.nv_bus.specs.Turn.{can_take}
 use Rattle.nv_driver.proofs.AnswerLaws.{IsAnswerTo, answer_sound, answered, asked_controllers, asked_keeps, asked_limit}
 use Rattle.nv_driver.proofs.AnswerLaws.{completion_fits, holds_on}
 use Rattle.nv_driver.proofs.DataLaws.{ArePlaces, received_back, received_same, written-nothing}
@@ -104,15 +97,7 @@ is_done t s w y d k below one =
 moves_there : (asked : Asked) (at : List ℕ) (a : Answer) (old moved : List ℕ) → MovesBy (call_at at asked) a old moved
     → (xs : List ℕ) × (moved ≡ written_at old at xs)
 moves_there (Ok k) at (Ok reply) old moved moves = (data_of k moves.0, moves.2)
-moves_there (Ok k) at (Err status) old moved moves = ([], moves ∙ sym (written-nothing old at))
-moves_there (Err code) at a old moved moves = ([], moves ∙ sym (written-nothing old at))
-
--- a command's places are those of its data
-are_places : (t : Setting) (x : Sent) (old : List ℕ) → IsOwn t (length old) x
-    → ArePlaces x.request.transfer (length old) (places t.page_size x)
-are_places t x old own =
-    let size = length-places t.page_size x in
-    record { size = size; inside = λ i below. own.inside i (omega arith); distinct = own.distinct }
+moves_there asked at a old moved moves = ([], moves ∙ sym (written-nothing old at))
 
 -- the data of a reply is received, even after its completion was posted
 delivered_by : (asked : Asked) (a : Answer) (m : Transfer) (at old moved new : List ℕ)
@@ -127,8 +112,7 @@ delivered_by (Ok k) (Ok reply) m at old moved new is goes moves are same =
           ∙ received_back m old at (data_of k r) are
           (replies_fit k r with_tags.0 with_tags.1 ∙ ap bytes_to_host goes.0),
     )
-delivered_by (Ok k) (Err status) m at old moved new is goes moves are same = tt
-delivered_by (Err code) a m at old moved new is goes moves are same = tt
+delivered_by asked a m at old moved new is goes moves are same = tt
 
 -- ---- what the entry keeps
 
@@ -223,8 +207,7 @@ module _ (t : Setting) (s : State) (w : World) (y : Scene) (d : Sent) (k : Keeps
   -- its own list doesn't change
   own_list : KeepsList (pointed t.page_size x w.mem) x.first x.second y.bytes
   own_list =
-      let moved = subst (KeepsList (pointed t.page_size x w.mem) x.first x.second) (sym put.1)
-      (written_list t.page_size x w.mem put.0 some own.enough own.pages) in
+      let moved = rw (← put.1) at (written_list t.page_size x w.mem put.0 some own.enough own.pages) in
       let rest = own_stays.list in
       record {
         len = rest.len ∙ moved.len;
@@ -232,25 +215,18 @@ module _ (t : Setting) (s : State) (w : World) (y : Scene) (d : Sent) (k : Keeps
         in_second = λ many. rest.in_second many ∙ moved.in_second many;
       }
 
-  -- its pages are none of another outstanding request
-  apart_from : (i : ℕ) (e : Sent) → length w.answers ≤ i → i < length w.sent → i ≢ w.done
-      → AreApart (get_or w.sent i e) x
-  apart_from i e from high differ =
-      let z = get_or w.sent i e in
-      let is = get_or_default w.sent w.done e d below in
-      elim (cases_lt i w.done) [
-        | inl before ↦ subst (AreApart z) is (k.apart i w.done e from before below)
-        | inr behind ↦ apart-sym x z (subst (λ q. AreApart q z) is
-            (k.apart w.done i e k.counts.collected (omega (arith, differ)) high))
-      ]
-
   -- the lists and the data of other outstanding requests don't change
   other_stays : (i : ℕ) (e : Sent) → length w.answers ≤ i → i < length w.sent → i ≢ w.done
       → Stays t (get_or w.sent i e) w.mem y.bytes
   other_stays i e from high differ =
       let other = k.own i e from high in
-      stays_apart t x (get_or w.sent i e) t.cq (16 * t.depth) w.mem y.bytes some len only other.enough
-      (apart_from i e from high differ) other.completions
+      let z = get_or w.sent i e in
+      let is = get_or_default w.sent w.done e d below in
+      stays_apart t x z t.cq (16 * t.depth) w.mem y.bytes some len only other.enough (elim (cases_lt i w.done) [
+        | inl before ↦ subst (AreApart z) is (k.apart i w.done e from before below)
+        | inr behind ↦ apart-sym x z (subst (λ q. AreApart q z) is
+            (k.apart w.done i e k.counts.collected (omega (arith, differ)) high))
+      ]) other.completions
 
   -- the data pointers of all outstanding requests still name their data
   named_on : (i : ℕ) (e : Sent) → length w.answers ≤ i → i < length w.sent
@@ -258,8 +234,7 @@ module _ (t : Setting) (s : State) (w : World) (y : Scene) (d : Sent) (k : Keeps
   named_on i e from high =
       stays_in t.page_size (get_or w.sent i e) w.mem y.bytes
       (elim (cases_eq i w.done) [
-        | inl same ↦ subst (λ q. KeepsList (pointed t.page_size q w.mem) q.first q.second y.bytes)
-            (sym (ap (λ j. get_or w.sent j e) same ∙ get_or_default w.sent w.done e d below)) own_list
+        | inl same ↦ rw (ap (λ j. get_or w.sent j e) same ∙ get_or_default w.sent w.done e d below) own_list
         | inr differ ↦ (other_stays i e from high differ).list
       ])
       (k.named i e from high)
@@ -267,12 +242,12 @@ module _ (t : Setting) (s : State) (w : World) (y : Scene) (d : Sent) (k : Keeps
   -- its answer is held, and so are those that were held before
   held_now : Holds t s (world_after t w y) w.done x
   held_now = record {
-    answer = subst (λ (q : State). IsAnswered t.page_size x y.bytes (completion_at y.bytes t.cq (slot t w.done))
-        (step_of t.controller q (numbered x)).answer) k.state
-        (answered t.page_size x y.bytes (completion_at y.bytes t.cq (slot t w.done)) t.depth (number t w.done) x.cid
-        (slot t (w.done + 1)) answer written.here sound
+    answer = rw (← k.state) (answered t.page_size x y.bytes (completion_at y.bytes t.cq (slot t w.done)) t.depth
+        (number t w.done) x.cid (slot t (w.done + 1)) answer written.here sound
         (delivered_by x.request.asked answer x.request.transfer (places t.page_size x) w.mem one.moved y.bytes sound
-        own.can.command one.moves (are_places t x w.mem own) own_stays.read));
+        own.can.command one.moves (let size = length-places t.page_size x in
+        record { size = size; inside = λ i below. own.inside i (omega arith); distinct = own.distinct })
+        own_stays.read));
     cid = ap (λ (q : Cqe). q.cid) written.here;
     head = ap (λ (q : Cqe). q.sq_head) written.here;
   }
@@ -297,8 +272,7 @@ module _ (t : Setting) (s : State) (w : World) (y : Scene) (d : Sent) (k : Keeps
         | inr later ↦
             let is : i ≡ w.done = omega arith in
             let same = ap (λ j. get_or w.sent j e) is ∙ get_or_default w.sent w.done e d below in
-            subst (Holds t s (world_after t w y) i) (sym same)
-            (subst (λ j. Holds t s (world_after t w y) j x) (sym is) held_now)
+            rw (same, is) held_now
       ]
 
   -- what holds for the schedule holds after this entry too
@@ -312,9 +286,8 @@ module _ (t : Setting) (s : State) (w : World) (y : Scene) (d : Sent) (k : Keeps
         bank = refl;
         state = one.state ∙ ap (λ (q : State). (step_of t.controller q (numbered x)).state) k.state
             ∙ sym (after_more t.controller s w.sent w.done d below);
-        well_formed = subst IsWellFormed (sym one.state)
-            (asked_keeps x.request.asked x.request.transfer w.state t.controller x.request.entry.nsid x.cid
-            own.can.command own.can.fits.nsid own.cid k.well_formed);
+        well_formed = rw one.state (asked_keeps x.request.asked x.request.transfer w.state t.controller
+            x.request.entry.nsid x.cid own.can.command own.can.fits.nsid own.cid k.well_formed);
         controller = rw (one.state, asked_controllers x.request.asked w.state t.controller x.request.entry.nsid x.cid)
             (k.controller);
         limit = ap (λ (q : State). limit_of q t.controller) one.state
@@ -331,10 +304,9 @@ module _ (t : Setting) (s : State) (w : World) (y : Scene) (d : Sent) (k : Keeps
             (other_stays i e (omega (arith, c.collected)) high (λ same. absurd (omega arith))).read
             (k.to_send i e (omega arith) high);
         held = held_on;
-        tags = subst (HoldsTags y.bytes t.cq t.depth) (number_next t w.done)
-            (tags_after one.moved y.bytes t.cq t.depth (number t w.done) posted
-            (number_below t w.done some_slots.0) written
-            (λ j low. ap (λ (q : Cqe). q.phase) (slots_keep j low) ∙ k.tags j low));
+        tags = rw (← number_next t w.done) (tags_after one.moved y.bytes t.cq t.depth (number t w.done) posted
+            (number_below t w.done some_slots.0) written (λ j low. ap (λ (q : Cqe). q.phase) (slots_keep j low) ∙ k.tags
+            j low));
         answers = k.answers;
       }
 

@@ -1,23 +1,18 @@
 -- A single entry: a run of one request, with its data in the pages behind those of all controllers.
 use Rattle.nv_driver.proofs.Words.{[], ℕ, ◌%◌, ◌*◌, ◌+◌, ◌∙◌, ◌∷◌, ◌≡◌, ◌≤◌, Answer, AreSendable, Asked, BusTurn}
-use Rattle.nv_driver.proofs.Words.{BusValue, CommandPages, Delivers, Err, Geometry, HasRoom, IsBuffer, IsHeard, IsHeld}
-use Rattle.nv_driver.proofs.Words.{IsLeft, IsReady, IsReceived, IsRequest, IsRunOf, KeepsOutside, LiesInPages, List}
-use Rattle.nv_driver.proofs.Words.{NumberSet, Ok, Pages, QueuePair, QueuePairFields, Request, RequestPlace, Requests}
-use Rattle.nv_driver.proofs.Words.{Run, Sent, Sqe, SqeFits, Status, TailWrite, Transfer, Write, after_some}
-use Rattle.nv_driver.proofs.Words.{all_of, all_pages, ap, arith, asked_in, bytes_read, entry_step, get_or}
-use Rattle.nv_driver.proofs.Words.{greatest_limit, length, length-take, length_of, limit_bounds, limit_of, min}
-use Rattle.nv_driver.proofs.Words.{mul-le-mul_right, numbered, numbered_request, padded, pages_of_entry, pair_value}
-use Rattle.nv_driver.proofs.Words.{place_in, received_from, refl, request_for, requests_in, run_of, side, step_of}
-use Rattle.nv_driver.proofs.Words.{CommandResult, command_result_of, subst, sym, transfer_for}
-use Rattle.nv_prp.specs.Buffer.{buffer_places}
-use Rattle.nv_bus.specs.Entry.{status_in}
-use Rattle.nv_driver.specs.Alone.{Comes, IsReadIn, came_with}
-use Rattle.nv_driver.specs.inner.Pace.{IsPaced}
+use Rattle.nv_driver.proofs.Words.{BusValue, Comes, CommandPages, CommandResult, Delivers, Err, Geometry, IsBuffer}
+use Rattle.nv_driver.proofs.Words.{IsHeard, IsHeld, IsLeft, IsPaced, IsReadIn, IsReady, IsReceived, IsRequest, IsRunOf}
+use Rattle.nv_driver.proofs.Words.{KeepsOutside, LiesInPages, List, NumberSet, Ok, Pages, QueuePair, QueuePairFields}
+use Rattle.nv_driver.proofs.Words.{Request, RequestPlace, Requests, Run, Sent, Sqe, SqeFits, Status, TailWrite}
+use Rattle.nv_driver.proofs.Words.{Transfer, Write, after_some, all_of, all_pages, ap, arith, asked_in, buffer_places}
+use Rattle.nv_driver.proofs.Words.{bytes_read, came_with, command_result_of, entry_step, get_or, greatest_limit, length}
+use Rattle.nv_driver.proofs.Words.{length-take, length_of, limit_bounds, limit_of, min, mul-le-mul_right, numbered}
+use Rattle.nv_driver.proofs.Words.{numbered_request, padded, pages_of_entry, pair_value, place_in, received_from, refl}
+use Rattle.nv_driver.proofs.Words.{request_for, requests_in, run_of, side, status_in, step_of, subst, sym, transfer_for}
 use Rattle.nv_driver.proofs.AnswerLaws.{IsAnswerTo, answer_sound}
-use Rattle.nv_driver.proofs.CommandPageLaws.{own_is}
+use Rattle.nv_driver.proofs.PointerLaws.{few_of_entry, own_is}
 use Rattle.nv_driver.proofs.PaddingLaws.{length-padded}
 use Rattle.nv_driver.proofs.RequestLaws.{every_entry}
-use Rattle.nv_driver.proofs.ShareLaws.{few_of_entry}
 use Rattle.nv_driver.proofs.TurnLaws.{no_command}
 use Rattle.nv_driver.proofs.UnderWayLaws.{request_is, room_few}
 
@@ -36,9 +31,8 @@ padded_same n came is =
 
 -- a list of one request
 only_one : (xs : List Sent) → length xs ≡ 1 → xs ≡ get_or xs 0 no_command ∷ []
-only_one [] one = absurd (omega arith)
 only_one (x ∷ []) one = refl
-only_one (x ∷ y ∷ ys) one = absurd (omega arith)
+only_one xs one = absurd (omega arith)
 
 -- a queue pair is as ready with other pages behind its rings, of which all are free
 pub ready_with : {g : Geometry} {bus : BusValue} {c : ℕ} {l : QueuePairFields} {now : ℕ} {bytes : List ℕ} (s : Pages)
@@ -146,8 +140,7 @@ module _ {g : Geometry} {bus : BusValue} {c : ℕ} {l : QueuePairFields} {now : 
         let o = get_or places 0 other in
         let held = h.held other in
         let many = ap (λ (ps : List ℕ). length ps) (held.pages ∙ own_is h.kept) ∙ h.kept.many in
-        let few = room_few h.one.request.transfer (subst (λ (p : Request). HasRoom p.transfer) (sym (request_is h.kept))
-        can.room) in
+        let few = room_few h.one.request.transfer (rw (request_is h.kept) can.room) in
         let most = (few_of_entry g (length_of h.one.request.transfer) a.ready.geometry few) in (
           omega (arith, many, most, held.few, length-take o.count o.numbers),
           omega (arith, many, held.few, length-take o.count o.numbers),
@@ -169,8 +162,7 @@ module _ {g : Geometry} {bus : BusValue} {c : ℕ} {l : QueuePairFields} {now : 
 
       -- its data lies there
       pub its_buffer : IsBuffer mem size at.pages at.offset (length_of m)
-      its_buffer = rw (page, at_is h.kept (h.held other), moves) (subst (λ (y : Sent). IsBuffer mem g.page_size y.pages
-          y.offset (length_of y.request.transfer)) h.kept.sent h.buffer)
+      its_buffer = rw (page, at_is h.kept (h.held other), moves) (rw h.kept.sent at h.buffer)
 
       -- the bytes that are read by the status, with zeros after them, are what the host receives
       pub received_by : (n : ℕ) {out : List ℕ} → out ≡ padded n (came_with last.status (received_from m mem

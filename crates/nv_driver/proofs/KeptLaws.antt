@@ -1,13 +1,15 @@
--- What a schedule preserves from its beginning on, when a doorbell is rung or an answer is collected.
-use Rattle.nv_driver.proofs.Words.{[], ℕ, ◌%◌, ◌*◌, ◌++◌, ◌+◌, ◌<◌, ◌↔◌, ◌∙◌, ◌∷◌, ◌≡◌, ◌≤◌, AreInOrder, Bell, Collect}
-use Rattle.nv_driver.proofs.Words.{Happens, Holds, HoldsTags, IsAwaitedThere, IsIdle, IsReadable, Keeps, RegisterBank}
+-- What a schedule preserves from a queue pair without outstanding commands on, when a doorbell is rung or an answer is
+-- collected, and its state after the schedule has ended.
+use Rattle.nv_driver.proofs.Words.{[], ℕ, ◌%◌, ◌*◌, ◌++◌, ◌+◌, ◌<◌, ◌↔◌, ◌∙◌, ◌∷◌, ◌≡◌, ◌≤◌, All, AreInOrder, Bell}
+use Rattle.nv_driver.proofs.Words.{Bool, BusValue, Collect, CollectNumbers, Geometry, Happens, Holds, HoldsTags}
+use Rattle.nv_driver.proofs.Words.{IsApart, IsAwaitedThere, IsIdle, IsLaid, IsOf, IsQuiet, IsReadable, IsReady, Keeps}
+use Rattle.nv_driver.proofs.Words.{KeepsBelow, KeepsOutside, List, OthersStay, QueuePair, QueuePairFields, RegisterBank}
 use Rattle.nv_driver.proofs.Words.{Sent, Setting, State, Tell, World, answer_awaited, answers_to, ap, arith, awaited}
-use Rattle.nv_driver.proofs.Words.{bank_with, cases_lt, completion_at, device_rings, get_or, get_or_append_left}
-use Rattle.nv_driver.proofs.Words.{get_or_default, get_or_push, inl, inr, length, length-append, mod-eq_of_lt, number}
-use Rattle.nv_driver.proofs.Words.{refl, slot, subst, sym, with_register_at}
-use Rattle.nv_queue.specs.Numbers.{kept_number, phase_of}
-use Rattle.nv_queue.proofs.SlotLaws.{not_own}
-use Rattle.nv_queue.proofs.TagLaws.{tag_below_here, tag_there}
+use Rattle.nv_driver.proofs.Words.{bank_with, beginning, cases_lt, collect_ring, completion_at, device_rings, false}
+use Rattle.nv_driver.proofs.Words.{get_or, get_or_append_left, get_or_default, get_or_push, inl, inr, kept_number}
+use Rattle.nv_driver.proofs.Words.{length, length-append, limit_of, mod-eq_of_lt, mul-le-mul_right, not_own, number}
+use Rattle.nv_driver.proofs.Words.{own_pages, pair_value, phase_of, refl, setting, slot, submit_ring, subst, sym}
+use Rattle.nv_driver.proofs.Words.{tag_below_here, tag_there, with_register_at}
 use Rattle.nv_driver.proofs.CountLaws.{head_told, number_above, number_below, numbers_differ, slot_inside, tail_rung}
 use Rattle.nv_driver.proofs.AnswerLaws.{holds_on}
 use Rattle.nv_driver.proofs.BatchLaws.{answer_at}
@@ -89,31 +91,23 @@ posted t w d k some low tags there =
           let same : k ≡ d = omega arith in
           let here = tags (slot t d) (slot_inside t d some)
           ∙ tag_below_here t.depth (number t d) (number_below t d some) in
-          absurd (not_own _ _ here (subst (λ n. (completion_at w.mem t.cq (slot t n)).phase ≡
-          phase_of t.depth (number t n)) same there))
+          absurd (not_own _ _ here (rw (← same) there))
     ]
-
--- in that case it is there
-awaited_there : (t : Setting) (s : State) (w : World) → Keeps t s w → length w.answers < w.done
-    → IsAwaitedThere w.mem (awaited t w)
-awaited_there t s w k more =
-    let c = k.counts in
-    let deep = k.placed.deep in
-    let some : 0 < t.depth = omega (arith, deep.0) in
-    let n = length w.answers in
-    let far = number_above t n w.done some c.collected (omega (arith, c.done, c.rung, c.few)) in
-    k.tags (slot t n) (slot_inside t n some)
-    ∙ tag_there t.depth (number t w.done) (number t n) (number_below t w.done some) (number_below t n some)
-    (omega (arith, far, c.done, c.rung, c.few))
-    (λ same. numbers_differ t n w.done more (omega (arith, c.done, c.rung, c.few)) (sym same))
 
 -- the awaited completion is found if and only if a command was executed whose answer wasn't collected
 pub is_found : (t : Setting) (s : State) (w : World) → Keeps t s w
     → IsAwaitedThere w.mem (awaited t w) ↔ (length w.answers < w.done)
-is_found t s w k = (
-  posted t w w.done (length w.answers) (let deep = k.placed.deep in omega (arith, deep.0)) k.counts.collected k.tags,
-  awaited_there t s w k,
-)
+is_found t s w k =
+    let c = k.counts in
+    let deep = k.placed.deep in
+    let some : 0 < t.depth = omega (arith, deep.0) in
+    let n = length w.answers in
+    let far = number_above t n w.done some c.collected (omega (arith, c.done, c.rung, c.few)) in (
+      posted t w w.done n some c.collected k.tags,
+      λ more. k.tags (slot t n) (slot_inside t n some) ∙ tag_there t.depth (number t w.done) (number t n)
+          (number_below t w.done some) (number_below t n some) (omega (arith, far, c.done, c.rung, c.few))
+          (λ same. numbers_differ t n w.done more (omega (arith, c.done, c.rung, c.few)) (sym same)),
+    )
 
 -- collecting the answer of a command that was executed keeps what holds for the schedule
 collected_one : (t : Setting) (s : State) (w : World) (d : Sent) → Keeps t s w → length w.answers < w.done
@@ -157,3 +151,64 @@ pub collect_keeps : (t : Setting) (s : State) (w w' : World) → Keeps t s w →
 collect_keeps t s w w' k (inl there) =
     subst (Keeps t s) (sym there.2) (collected_one t s w there.1 k ((is_found t s w k).0 there.0))
 collect_keeps t s w w' k (inr none) = subst (Keeps t s) (sym none.1) k
+
+-- ---- a queue pair without outstanding commands
+
+-- a ready controller without outstanding commands is idle
+pub is_idle : (g : Geometry) (b : BusValue) (c : ℕ) (l : QueuePairFields) (now : ℕ) (bytes : List ℕ)
+    → IsReady g b c l now bytes
+    → let t = setting g c (limit_of b.state c) (pair_value l) in IsIdle t (beginning t bytes b.state)
+is_idle g b c l now bytes r =
+    let laid = r.laid in
+    let t = setting g c (limit_of b.state c) (pair_value l) in
+    let rings : IsApart t.sq (64 * t.depth) t.cq (16 * t.depth) = inr laid.rings in
+    let submissions : t.sq + 64 * t.depth ≤ length bytes = omega (arith, laid.rings, laid.pages, laid.inside) in
+    let completions : t.cq + 16 * t.depth ≤ length bytes = omega (arith, laid.pages, laid.inside) in
+    let bank : t.bank ≡ bank_with t (device_rings t 0 0 0) = rw (← number_zero t laid.number) refl in
+    let controller : c < length b.state.controllers = omega (arith, r.controller, r.bus.banks) in
+    let limit : limit_of b.state c ≡ t.limit = refl in assumption
+
+-- the host's rings of a queue pair without outstanding commands are those at the beginning of a schedule
+pub submit_ring_is : (g : Geometry) (c limit : ℕ) (bytes : List ℕ) (l : QueuePairFields) → IsQuiet l
+    → l.submission.submitted < 2 * l.submission.depth
+    → l.submission ≡ submit_ring (setting g c limit (pair_value l)) 0 0
+submit_ring_is g c limit bytes l quiet below =
+    rw (← number_zero (setting g c limit (pair_value l)) below)
+    (ap (λ n. record l.submission { known = n }) quiet.known)
+
+-- the host's completion ring is the one with which the schedule begins
+pub collect_ring_is : (g : Geometry) (c limit : ℕ) (bytes : List ℕ) (l : QueuePairFields) → IsQuiet l
+    → l.submission.submitted < 2 * l.submission.depth
+    → l.completion ≡ collect_ring (setting g c limit (pair_value l)) 0 0
+collect_ring_is g c limit bytes l quiet below =
+    let ring : ℕ → ℕ → ℕ → Bool → CollectNumbers = λ d n told untold.
+    record { base = l.completion.base; depth = d; collected = n; told = told; untold = untold } in
+    let all : ring l.completion.depth l.completion.collected l.completion.told l.completion.untold
+    ≡ ring l.submission.depth l.submission.submitted l.submission.submitted false = cc in
+    rw (← number_zero (setting g c limit (pair_value l)) below) all
+
+-- ---- the end
+
+-- if each request's pages were those of the set, what is in no ring and no such page doesn't change
+pub outside_kept : (g : Geometry) {c limit : ℕ} (l : QueuePairFields) {bytes : List ℕ} {w : World}
+    → OthersStay (setting g c limit (pair_value l)) 0 bytes w
+    → ((i : ℕ) (d : Sent) → i < length w.sent
+    → All (λ p. IsOf l.pages.first l.pages.count p) (own_pages (get_or w.sent i d)))
+    → KeepsOutside g.page_size (pair_value l) bytes w.mem
+outside_kept g l {w = w} others own from n sq cq pages =
+    others.same from n (record {
+      submissions = sq;
+      completions = cq;
+      pages = λ i d low h j e inside.
+          let one = own i d h j e inside in
+          let last : get_or (own_pages (get_or w.sent i d)) j e + 1 ≤ l.pages.first + l.pages.count =
+          omega (arith, one.1) in
+          grind (arith, pages, mul-le-mul_right g.page_size one.0, mul-le-mul_right g.page_size last);
+    })
+
+-- so nothing outside the queue pair changes
+pub pair_kept : {page_size size : ℕ} {v : QueuePair} (old new : List ℕ) → IsLaid page_size size v
+    → KeepsOutside page_size v old new → (end : ℕ) → KeepsBelow end page_size v old new
+pair_kept old new laid keeps end from n low apart =
+    keeps from n (grind (arith, apart, laid.rings, laid.pages, laid.inside))
+    (grind (arith, apart, laid.rings, laid.pages)) (grind (arith, apart, laid.rings, laid.pages))

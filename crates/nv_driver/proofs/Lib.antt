@@ -2,10 +2,7 @@ pub mod Words
 pub mod BatchLaws
 pub mod PageSetLaws
 pub mod WindowPageLaws
-pub mod CommandPageLaws
-pub mod ShareLaws
 pub mod SubmittingLaws
-pub mod QuietLaws
 pub mod UnderWayLaws
 pub mod RoundLaws
 pub mod EndLaws

@@ -1,16 +1,14 @@
 -- The effect of a new driver, its commands and its resets on command identifiers and register banks.
 use Rattle.nv_driver.proofs.Words.{[], ℕ, ◌++◌, ◌+◌, ◌<◌, ◌↔◌, ◌∙◌, ◌∷◌, ◌≡◌, ◌≢◌, BusValue, DriverValue, Err, Geometry}
-use Rattle.nv_driver.proofs.Words.{IsLinked, List, None, Ok, Option, QueuePair, Result, Some, after_command, ap, arith}
-use Rattle.nv_driver.proofs.Words.{cid_after, enabled_in, get_or, get_or-map, idle_bank, length, length-map, map}
-use Rattle.nv_driver.proofs.Words.{map-append, map-range_with_len_more, map-set, mps_of, no_pair, pair_at, pair_of}
-use Rattle.nv_driver.proofs.Words.{pairs_of, refl, renewed_pair, replicate, subst, suc, sym, true, zero}
+use Rattle.nv_driver.proofs.Words.{IsLinked, List, None, Ok, Option, QueuePair, Result, Some, after_command, after_one}
+use Rattle.nv_driver.proofs.Words.{ap, arith, cid_after, enabled_in, geometry_fault, get_or, get_or-map, idle_bank}
+use Rattle.nv_driver.proofs.Words.{length, length-map, map, map-append, map-range_with_len_more, map-set, map-set_same}
+use Rattle.nv_driver.proofs.Words.{mps_of, no_pair, pair_at, pair_of, pairs_of, refl, renewed_pair, replicate}
+use Rattle.nv_driver.proofs.Words.{replicate_more, subst, suc, sym, true, zero}
 use Rattle.std.proofs.Common.{set, zero-add}
-use Rattle.std.proofs.Math.Seq.{map-set_same}
-use Rattle.std.proofs.lemmas.List.{length-set, replicate_more}
+use Rattle.std.proofs.lemmas.List.{length-set}
 use Rattle.nv_driver.specs.Driver.{after_reset, new_driver}
 use Rattle.nv_driver.specs.inner.Driver.{error_without}
-use Rattle.nv_driver.specs.Geometry.{geometry_fault}
-use Rattle.nv_driver.specs.Exchange.{after_one}
 use Rattle.nv_driver.specs.inner.Linked.{next_cids_of}
 use Rattle.nv_driver.specs.declared.error.DriverError.{DriverError}
 use Rattle.nv_driver.specs.declared.geometry_field.GeometryField.{GeometryField}

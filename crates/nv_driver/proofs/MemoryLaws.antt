@@ -2,13 +2,12 @@
 use Rattle.nv_driver.proofs.Words.{[], ℕ, ◌*◌, ◌++◌, ◌+◌, ◌-◌, ◌<◌, ◌^◌, ◌∙◌, ◌∷◌, ◌≡◌, ◌≤◌, All, All-push, Geometry}
 use Rattle.nv_driver.proofs.Words.{HoldsTags, IsDriver, IsGeometry, IsLaid, IsQuiet, IsSettled, KeepsBelow, List}
 use Rattle.nv_driver.proofs.Words.{PagedBytes, Pages, QueuePair, QueuePairFields, all_of, ap, arith, below_more}
-use Rattle.nv_driver.proofs.Words.{div_ceil_times, driver_value, driver_with, end_of, get_or-map}
+use Rattle.nv_driver.proofs.Words.{completion_pages, div_ceil_times, driver_value, driver_with, end_of, get_or-map}
 use Rattle.nv_driver.proofs.Words.{get_or-map-range_with_len, inl, length, length-map, length-map-range_with_len}
-use Rattle.nv_driver.proofs.Words.{length-replicate, map, map-append, map-range_with_len_more, mul-le-mul_right}
-use Rattle.nv_driver.proofs.Words.{page_count, page_size_bounds, pages_behind, pages_of, pair_of, pair_pages}
-use Rattle.nv_driver.proofs.Words.{pair_value, pairs_of, refl, replicate, slice_index_or, subst, sym, zero-add}
-use Rattle.std.proofs.Math.Nat.{mul-div_cancel, mul-le-mul}
-use Rattle.nv_driver.specs.Layout.{completion_pages, set_pages, submission_pages}
+use Rattle.nv_driver.proofs.Words.{length-replicate, map, map-append, map-range_with_len_more, mul-div_cancel}
+use Rattle.nv_driver.proofs.Words.{mul-le-mul, mul-le-mul_right, page_count, page_size_bounds, pages_behind, pages_of}
+use Rattle.nv_driver.proofs.Words.{pair_of, pair_pages, pair_value, pairs_of, refl, replicate, set_pages}
+use Rattle.nv_driver.proofs.Words.{slice_index_or, submission_pages, subst, sym, zero-add}
 use Rattle.nv_driver.proofs.AdminLaws.{slots_stay}
 
 -- ---- the numbers of pages
@@ -39,12 +38,6 @@ pairs_more xs x g i h e =
     ∙ (ap (λ ys. ys ++ pair_value x ∷ []) h
     ∙ (ap (λ y. pairs_of g i ++ y ∷ []) e ∙ sym (map-range_with_len_more (pair_of g) 0 i i (zero-add i))))
 
--- rings fit in their pages
-rings_fit : (g : Geometry) → 0 < g.page_size
-    → (64 * g.depth ≤ submission_pages g * g.page_size) × (16 * g.depth ≤ completion_pages g * g.page_size)
-unfolding submission_pages completion_pages
-rings_fit g h = ((div_ceil_times (64 * g.depth) g.page_size h).0, (div_ceil_times (16 * g.depth) g.page_size h).0)
-
 -- n bytes that begin at page x and fit in s pages end at page x + s or before
 after : (x s p n : ℕ) → n ≤ s * p → x * p + n ≤ (x + s) * p
 after x s p n h = omega arith
@@ -54,23 +47,6 @@ pub pair_ends : (g : Geometry) (i j : ℕ) → i < j → end_of g.page_size (pai
 pair_ends g i j h =
     let pages : i * pair_pages g + submission_pages g + completion_pages g + set_pages g ≤ j * pair_pages g =
     omega (arith, mul-le-mul_right (pair_pages g) h) in mul-le-mul_right g.page_size pages
-
--- the queue pair of a controller lies in a memory with the pages of n controllers
-pair_laid : (g : Geometry) (n i size : ℕ) → IsGeometry g → i < n → pages_of g n * g.page_size ≤ size
-    → IsLaid g.page_size size (pair_of g i)
-pair_laid g n i size is h e =
-    let page = page_size_bounds g.page_size is.page_size in
-    let fit = rings_fit g (omega arith) in
-    let deep = is.depth in
-    let first = i * pair_pages g in
-    record {
-      deep = deep;
-      number = omega arith;
-      next_cid = omega arith;
-      rings = after first (submission_pages g) g.page_size (64 * g.depth) fit.0;
-      pages = after (first + submission_pages g) (completion_pages g) g.page_size (16 * g.depth) fit.1;
-      inside = omega (arith, pair_ends g i n h, e);
-    }
 
 -- queue pair i of n controllers belongs to controller i
 pair_at : (g : Geometry) (n i : ℕ) (d : QueuePair) → i < n → slice_index_or (pairs_of g n) i d ≡ pair_of g i
@@ -89,13 +65,6 @@ pub pair_count : (g : Geometry) (n : ℕ) (ls : List QueuePairFields) → map pa
 pair_count g n ls are =
     sym (length-map ls pair_value) ∙ ap (λ (vs : List QueuePair). length vs) are
     ∙ length-map-range_with_len (pair_of g) 0 n
-
--- each queue pair lies in a memory with this number of pages
-pub all_laid : (g : Geometry) (n size : ℕ) → IsGeometry g → pages_of g n * g.page_size ≤ size
-    → All (IsLaid g.page_size size) (pairs_of g n)
-all_laid g n size is e i d h =
-    let many = length-map-range_with_len (pair_of g) 0 n in
-    rw (pair_at g n i d (omega arith)) (pair_laid g n i size is (omega arith) e)
 
 -- if all queue pairs lie in a memory, so does the queue pair of controller i
 pub laid_in : (g : Geometry) (n i size : ℕ) → All (IsLaid g.page_size size) (pairs_of g n) → i < n
@@ -156,9 +125,24 @@ module _ {g : Geometry} {n m pages : ℕ} {made : PagedBytes} (more : ℕ) (is :
 
   -- each queue pair lies in the new memory
   pub has_pairs : All (IsLaid g.page_size (length made.bytes)) (pairs_of g n)
-  has_pairs =
-      let some : pages_of g n ≤ pages = omega (arith, many, ap (pages_of g) same) in
-      all_laid g n (length made.bytes) is (omega (arith, memory_size, mul-le-mul_right g.page_size some))
+  unfolding submission_pages completion_pages
+  has_pairs i d h =
+      let few : pages_of g n ≤ pages = omega (arith, many, ap (pages_of g) same) in
+      let count = length-map-range_with_len (pair_of g) 0 n in
+      let below : i < n = omega arith in
+      let page = page_size_bounds g.page_size is.page_size in
+      let deep = is.depth in
+      let first = i * pair_pages g in
+      rw (pair_at g n i d below) (record {
+        deep = deep;
+        number = omega arith;
+        next_cid = omega arith;
+        rings = after first (submission_pages g) g.page_size (64 * g.depth)
+            (div_ceil_times (64 * g.depth) g.page_size (omega arith)).0;
+        pages = after (first + submission_pages g) (completion_pages g) g.page_size (16 * g.depth)
+            (div_ceil_times (16 * g.depth) g.page_size (omega arith)).0;
+        inside = omega (arith, pair_ends g i n below, memory_size, mul-le-mul_right g.page_size few);
+      })
 
   -- queue pairs that were laid out in such a memory belong to a new driver
   pub driver_at_first : {mem : PagedBytes} {pairs : List QueuePairFields} → pages < 2 ^ 32

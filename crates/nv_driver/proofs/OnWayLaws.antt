@@ -1,25 +1,22 @@
 -- Requests on their way: what submissions, doorbells, turns and collections leave.
 use Rattle.nv_driver.proofs.Words.{[], ℕ, ◌*◌, ◌++◌, ◌+◌, ◌-◌, ◌<◌, ◌==◌, ◌∙◌, ◌∷◌, ◌≡◌, ◌≤◌, Answer, AreApart, Bell}
-use Rattle.nv_driver.proofs.Words.{BusValue, Collect, Course, Cqe, Event, Geometry, Happens, HasFreeSlot, Holds}
-use Rattle.nv_driver.proofs.Words.{IsAwaitedThere, IsBus, IsLeft, IsOnWay, IsPlaceFor, IsReady, IsRequest}
-use Rattle.nv_driver.proofs.Words.{IsSubmittedAt, IsTold, KeepsBelow, List, MaySubmit, Pages, QueuePairFields}
-use Rattle.nv_driver.proofs.Words.{RegisterBank, Request, RequestPlace, Run, Sent, Setting, State, Submit, Tell, Turn}
-use Rattle.nv_driver.proofs.Words.{World, after_some, answer_awaited, ap, arith, awaited, awaited_completion, bank_at}
-use Rattle.nv_driver.proofs.Words.{beginning, between_kept, cid_after, cid_at, collect_ring, collected_one}
-use Rattle.nv_driver.proofs.Words.{completion_at, entry, false, first_kept, get_or, get_or-set_same, inl, known_to}
-use Rattle.nv_driver.proofs.Words.{length, length-append, length-set, length_of, limit_of, min, mod_below}
-use Rattle.nv_driver.proofs.Words.{mul-le-mul_right, nat_tests, new_bank, not, number, pair_value, refl, run_of}
-use Rattle.nv_driver.proofs.Words.{sent_at, set-get_or, set-set, setting_of, side, slice_set, slot, submit_ring, subst}
-use Rattle.nv_driver.proofs.Words.{sym, true, way, with_register_at, with_submission, world_of}
-use Rattle.nv_queue.specs.Numbers.{first_in_slot, next, slot_of}
-use Rattle.nv_queue.specs.Rings.{submitted_one, told_all}
-use Rattle.nv_driver.specs.Schedule.{Doing, Follows}
-use Rattle.nv_driver.specs.inner.Submitting.{CanCollect}
-use Rattle.nv_driver.specs.UnderWay.{Way, first_world, pair_after, world_by}
+use Rattle.nv_driver.proofs.Words.{BusValue, CanCollect, Collect, Course, Cqe, Doing, Event, Follows, Geometry, Happens}
+use Rattle.nv_driver.proofs.Words.{HasFreeSlot, Holds, IsAwaitedThere, IsBus, IsLeft, IsOnWay, IsPlaceFor, IsReady}
+use Rattle.nv_driver.proofs.Words.{IsRequest, IsSubmittedAt, IsTold, KeepsBelow, List, MaySubmit, Pages}
+use Rattle.nv_driver.proofs.Words.{QueuePairFields, RegisterBank, Request, RequestPlace, Run, Sent, Setting, State}
+use Rattle.nv_driver.proofs.Words.{Submit, Tell, Turn, Way, World, after_some, answer_awaited, ap, arith, awaited}
+use Rattle.nv_driver.proofs.Words.{awaited_completion, bank_at, beginning, between_kept, cid_after, cid_at}
+use Rattle.nv_driver.proofs.Words.{collect_ring, collected_one, completion_at, entry, false, first_in_slot, first_kept}
+use Rattle.nv_driver.proofs.Words.{first_world, get_or, get_or-set_same, inl, known_to, length, length-append}
+use Rattle.nv_driver.proofs.Words.{length-set, length_of, limit_of, min, mod_below, mul-le-mul_right, nat_tests}
+use Rattle.nv_driver.proofs.Words.{new_bank, next, not, number, pair_after, pair_value, refl, run_of, sent_at}
+use Rattle.nv_driver.proofs.Words.{set-get_or, set-set, setting_of, side, slice_set, slot, slot_of, submit_ring}
+use Rattle.nv_driver.proofs.Words.{submitted_one, subst, sym, told_all, true, way, with_register_at, with_submission}
+use Rattle.nv_driver.proofs.Words.{world_by, world_of}
 use Rattle.nv_driver.proofs.BatchLaws.{cid_next}
 use Rattle.nv_driver.proofs.CountLaws.{number_above, number_below, number_next}
-use Rattle.nv_driver.proofs.KeptLaws.{bell_keeps, collect_keeps, idle_keeps, is_found, tell_keeps}
-use Rattle.nv_driver.proofs.QuietLaws.{collect_ring_is, is_idle, submit_ring_is}
+use Rattle.nv_driver.proofs.KeptLaws.{bell_keeps, collect_keeps, collect_ring_is, idle_keeps, is_found, is_idle}
+use Rattle.nv_driver.proofs.KeptLaws.{submit_ring_is, tell_keeps}
 use Rattle.nv_driver.proofs.ScheduleLaws.{bell_others, collect_others, others_now, tell_others, turn_others}
 use Rattle.nv_driver.proofs.SubmitLaws.{submit_keeps, submit_others}
 use Rattle.nv_driver.proofs.SubmittingLaws.{AreFrom, outside_before, pairs_same}
@@ -45,12 +42,6 @@ above_told h k low = grind (arith, nat_tests)
 pub bank_set : (banks : List RegisterBank) (c : ℕ) (p : RegisterBank) → c < length banks
     → bank_at (slice_set banks c p) c ≡ p
 bank_set banks c p below = get_or-set_same banks c p new_bank below
-
--- setting one register bank keeps how many there are
-pub banks_long : (banks new : List RegisterBank) (c : ℕ) (p : RegisterBank)
-    → c < length banks → new ≡ slice_set banks c p → c < length new
-banks_long banks new c p below is =
-    let size = ap (λ (x : List RegisterBank). length x) is ∙ length-set banks c p in omega arith
 
 -- setting a register bank twice sets it to the value that it has in the end
 pub set_again : (banks one two : List RegisterBank) (c : ℕ) (p q : RegisterBank) → c < length banks
@@ -101,7 +92,9 @@ module _ {B : Type 0} {doing : Doing B} {start on : B} {w : Way} {bus : BusValue
 
   -- the controller has registers
   pub has_bank : w.run.controller < length bus.banks
-  has_bank = banks_long w.run.bus.banks bus.banks w.run.controller _ u.begun.controller u.banks
+  has_bank =
+      let size = ap (λ (x : List RegisterBank). length x) u.banks ∙ length-set w.run.bus.banks w.run.controller _ in
+      omega (arith, u.begun.controller)
 
   -- one more event, which was due
   abbrev pub more_events : Event → Course
@@ -201,10 +194,7 @@ module _ {B : Type 0} {doing : Doing B} {start on : B} {w : Way} {bus : BusValue
       ≡ with_register_at (bank_at bus.banks w.run.controller) offset new)
       × (bus'.banks ≡ slice_set w.run.bus.banks w.run.controller (bank_at bus'.banks w.run.controller))
   bank_is bus' {c} {value} {new} offset same put banks =
-      let own = subst (λ v. bus'.banks ≡ slice_set bus.banks w.run.controller
-      (with_register_at (bank_at bus.banks w.run.controller) offset v)) put
-      (subst (λ i. bus'.banks ≡ slice_set bus.banks i (with_register_at (bank_at bus.banks i) offset value)) same
-      banks) in (
+      let own = rw (put, same) at banks in (
         ap (λ ps. bank_at ps w.run.controller) own ∙ bank_set bus.banks w.run.controller _ has_bank,
         set_again w.run.bus.banks bus.banks bus'.banks w.run.controller _ _ u.begun.controller u.banks own,
       )
@@ -285,21 +275,17 @@ module _ {B : Type 0} {doing : Doing B} {start on : B} {w : Way} {bus : BusValue
       × (count ≡ min most (min (w.rung - w.done) (w.run.pair.submission.depth - 1 - (w.done - w.told))))
   turned {bus'} {on'} {now'} {asked} {most} {count} {c} {mem} same pace turn lawful size page its_time =
       let v = turned_way most count in
-      let own = subst (λ k. T.Turn now w.run.controller k count bus bytes bus' mem) pace
-      (subst (λ i. T.Turn now i asked count bus bytes bus' mem) same turn) in
+      let own = rw (pace, same) at turn in
       let happens : Happens t (Turn most) world (world_of v bus' mem) =
       (count, rw u.page_size at own.own, refl) in
+      let keeps = turn_keeps t w.run.bus.state most world (world_of v bus' mem) u.keeps happens in
+      let others = turn_others t w.run.bus.state 0 w.run.bytes most world (world_of v bus' mem) u.keeps u.others happens
+      in
+      let banks = set_again w.run.bus.banks bus.banks bus'.banks w.run.controller _ _ u.begun.controller u.banks
+      own.others in
       let ran : Follows doing t (Turn most ∷ w.course.events) (first_world w.run) start (world_of v bus' mem) on' =
       (world, on, u.ran, its_time, happens) in (
-        assumption (
-          ran,
-          page ∙ u.page_size,
-          size ∙ u.size,
-          turn_keeps t w.run.bus.state most world (world_of v bus' mem) u.keeps happens,
-          turn_others t w.run.bus.state 0 w.run.bytes most world (world_of v bus' mem) u.keeps u.others happens,
-          set_again w.run.bus.banks bus.banks bus'.banks w.run.controller _ _ u.begun.controller u.banks own.others,
-          u,
-        ),
+        assumption (ran, page ∙ u.page_size, size ∙ u.size, keeps, others, banks, u),
         omega (arith, turn_takes t w.run.bus.state most world (world_of v bus' mem) u.keeps happens),
       )
 

@@ -1,18 +1,15 @@
 -- Bytes with zeros after them.
-use Rattle.std.proofs.Common.{◌≡◌, ◌∙◌, ℕ, ◌+◌, ◌-◌, ◌<◌, ◌≤◌, ◌++◌, Bool, List, [], ap, arith, false, get_or, inl, inr}
-use Rattle.std.proofs.Common.{◌*◌, ◌/◌, ◌%◌, drop, length, length-append, length-drop, length-take, min, refl}
-use Rattle.std.proofs.Common.{replicate, slice_index, sym, take, true}
-use Rattle.std.proofs.Math.Nat.{div-eq_of_lt, mod-eq_of_lt}
-use Rattle.std.proofs.lemmas.Grind.{same_number_lists}
-use Rattle.std.proofs.lemmas.List.{get_or-drop, get_or-take, get_or_past}
+use Rattle.nv_driver.proofs.Words.{[], ℕ, ◌%◌, ◌*◌, ◌++◌, ◌+◌, ◌-◌, ◌/◌, ◌<◌, ◌∙◌, ◌≡◌, ◌≤◌, Bool, List, ToHost}
+use Rattle.nv_driver.proofs.Words.{Transfer, ap, arith, buffer_place, buffer_places, bytes_at, bytes_to_host, cases_lt}
+use Rattle.nv_driver.proofs.Words.{div-eq_of_lt, drop, false, get_or, get_or-bytes_at, get_or-drop, get_or-map}
+use Rattle.nv_driver.proofs.Words.{get_or-table, get_or-take, get_or_past, if◌then◌else◌, inl, inr, length}
+use Rattle.nv_driver.proofs.Words.{length-append, length-drop, length-read_at, length-replicate, length-table}
+use Rattle.nv_driver.proofs.Words.{length-take, length_of, min, mod-eq_of_lt, padded, page_size_bounds, read_at}
+use Rattle.nv_driver.proofs.Words.{received_from, refl, same_number_lists, sym, table, take, true}
+use Rattle.std.proofs.Common.{replicate, slice_index}
 use Rattle.nv_host.proofs.BytesLaws.{length-bytes_at}
-use Rattle.nv_prp.specs.Buffer.{buffer_place, buffer_places}
-use Rattle.nv_prp.specs.Place.{read_at, table}
 use Rattle.nv_prp.proofs.CopyLaws.{read_part}
-use Rattle.nv_prp.proofs.PlaceLaws.{get_or-bytes_at, get_or-table, length-read_at, length-table}
 use Rattle.nv_layout.proofs.PartLaws.{get_or-past}
-use Rattle.nv_driver.proofs.Words.{FromHost, NoData, ToHost, Transfer, bytes_at, bytes_to_host, cases_lt, get_or-map}
-use Rattle.nv_driver.proofs.Words.{if◌then◌else◌, length-replicate, length_of, padded, page_size_bounds, received_from}
 use Rattle.nv_driver.proofs.DataLaws.{data_part, few_data, nothing}
 
 -- padded bytes are as many as were asked for
@@ -22,17 +19,6 @@ length-padded n bytes =
     let zeros = length-replicate {A = ℕ} n 0 in
     let first = length-take n (bytes ++ replicate n 0) in omega (arith, whole, zeros, first)
 
--- the first n are those of the bytes, which count as 0 past the last one
-abbrev pub HasFirst : ℕ → List ℕ → List ℕ → Type 0
-HasFirst n bytes out = (i : ℕ) → i < n → get_or out i 0 ≡ get_or bytes i 0
-
--- n bytes that are equal to the given ones, and 0 past their end, are the padded bytes
-pub padded_by : (n : ℕ) (out bytes : List ℕ) → length out ≡ n → HasFirst n bytes out → out ≡ padded n bytes
-padded_by n out bytes size first =
-    same_number_lists out (padded n bytes) (size ∙ sym (length-padded n bytes))
-    (λ i below. let low : i < n = omega arith in
-    first i low ∙ sym (get_or-take n (bytes ++ replicate n 0) i 0 low ∙ get_or-past bytes 0 n i))
-
 -- a part of bytes with zeros after them: it begins at a byte or past the last one
 pub padded_part : (n at first count m k len : ℕ) (bytes out : List ℕ) → first ≡ min at (length bytes)
     → count ≡ min len (length bytes - first) → m ≡ count → k ≡ len - count → at + len ≤ n
@@ -41,13 +27,9 @@ padded_part n at first count m k len bytes out begins few same rest inside is =
     let part = take m (drop first bytes) in
     let all = padded n bytes in
     let size : length part ≡ count = omega (arith, length-take m (drop first bytes), length-drop first bytes) in
-    let long : length out ≡ len = omega (
-      arith,
-      ap (λ (xs : List ℕ). length xs) is,
-      length-append part (replicate k 0),
-      length-replicate {A = ℕ} k 0,
-      size,
-    ) in
+    let whole = ap (λ (xs : List ℕ). length xs) is in
+    let long : length out ≡ len =
+    omega (arith, whole, size, length-append part (replicate k 0), length-replicate {A = ℕ} k 0) in
     let wanted : length (take len (drop at all)) ≡ len =
     omega (arith, length-take len (drop at all), length-drop at all, length-padded n bytes) in
     same_number_lists out (take len (drop at all)) (long ∙ sym wanted)
@@ -118,22 +100,24 @@ padded_read mem page_size pages offset len count n k out few room all rest is =
     let whole = read_at mem (buffer_places page_size pages offset len) in
     let here = length-read mem page_size pages offset count in
     let size = ap (λ (xs : List ℕ). length xs) is in
-    padded_by n out whole
-    (omega (arith, size, length-append part (replicate k 0), length-replicate {A = ℕ} k 0, here, rest, room))
-    (λ i below.
+    let long : length out ≡ n =
+    omega (arith, size, length-append part (replicate k 0), length-replicate {A = ℕ} k 0, here, rest, room) in
+    same_number_lists out (padded n whole) (long ∙ sym (length-padded n whole))
+    (λ i inside.
+    let below : i < n = omega (arith, long, inside) in
     ap (λ xs. get_or xs i 0) is ∙ get_or-past part 0 k i
     ∙ elim (cases_lt i count) [
       | inl low ↦ read_first mem page_size pages offset count i low
           ∙ sym (read_first mem page_size pages offset len i (omega arith))
       | inr past ↦ get_or_past part i 0 (omega (arith, here))
           ∙ sym (get_or_past whole i 0 (omega (arith, length-read mem page_size pages offset len, all (omega arith))))
-    ])
+    ]
+    ∙ sym (get_or-take n (whole ++ replicate n 0) i 0 below ∙ get_or-past whole 0 n i))
 
 -- how many bytes came by the status, and they are none if it refuses
 pub came_as : (m : Transfer) (done : Bool) (mem : List ℕ) (page_size : ℕ) (pages : List ℕ) (offset : ℕ)
     → read_at mem (buffer_places page_size pages offset (if done then bytes_to_host m else 0))
     ≡ (if done then received_from m mem (buffer_places page_size pages offset (length_of m)) else [])
 came_as m false mem page_size pages offset = nothing _ (length-read mem page_size pages offset 0)
-came_as NoData true mem page_size pages offset = nothing _ (length-read mem page_size pages offset 0)
 came_as (ToHost n) true mem page_size pages offset = refl
-came_as (FromHost n) true mem page_size pages offset = nothing _ (length-read mem page_size pages offset 0)
+came_as m true mem page_size pages offset = nothing _ (length-read mem page_size pages offset 0)

@@ -1,19 +1,16 @@
 -- Pages that are taken from a set one after another, and returned.
 use Rattle.nv_driver.proofs.Words.{[], ℕ, ◌&&◌, ◌++◌, ◌+◌, ◌<◌, ◌==◌, ◌||◌, ◌∙◌, ◌∷◌, ◌≡◌, ◌≢◌, ◌≤◌, All, All-push}
-use Rattle.nv_driver.proofs.Words.{AllPairs, AreLowest, AreTaken, Bool, IsOf, List, MatchOption, None, NumberSet}
-use Rattle.nv_driver.proofs.Words.{Option, Pages, Some, ap, arith, both_ways, cases_lt, false, fold, get_or}
-use Rattle.nv_driver.proofs.Words.{get_or-take, get_or_default, inl, inr, length, length-append, length-take}
-use Rattle.nv_driver.proofs.Words.{list_any-append, nat_eq, nat_tests, not, refl, subst, suc, sym, take, true}
-use Rattle.nv_driver.proofs.Words.{with_pages, without, zero}
-use Rattle.std.proofs.Common.{IfSome, IsSome, is_some, nat_cmp}
-use Rattle.std.proofs.lemmas.Bool.{or_cases, or_from, or_right}
-use Rattle.std.proofs.lemmas.List.Folds.{list_any_none}
+use Rattle.nv_driver.proofs.Words.{AllPairs, AreLowest, AreTaken, Bool, IsLowest, IsOf, IsSome, List, MatchOption, None}
+use Rattle.nv_driver.proofs.Words.{NumberSet, Option, Pages, Some, ap, arith, both_ways, cases_lt, contains-insert}
+use Rattle.nv_driver.proofs.Words.{contains-remove, false, fold, get_or, get_or-take, get_or_default}
+use Rattle.nv_driver.proofs.Words.{has_one as some_in, inl, inr, insert, is_some, length, length-append, length-take}
+use Rattle.nv_driver.proofs.Words.{list_any, list_any-append, list_any_none, nat_cmp, nat_eq, nat_tests, not, or_cases}
+use Rattle.nv_driver.proofs.Words.{or_from, or_right, refl, same_numbers, subst, suc, sym, take, true, with_pages}
+use Rattle.nv_driver.proofs.Words.{without, zero}
+use Rattle.std.proofs.Common.{IfSome}
 use Rattle.std.proofs.lemmas.List.Quantifiers.{all_pairs_push}
 use Rattle.std.proofs.lemmas.List.Sums.{fold_push}
 use Rattle.std.specs.Cmp.{nat_cmp_total}
-use Rattle.std.specs.List.{list_any}
-use Rattle.nv_bits.proofs.NumberLaws.{contains-insert, contains-remove, has_one as some_in, same_numbers}
-use Rattle.nv_host.specs.PageSets.{IsLowest, insert}
 use Rattle.std.specs.FinMap as map_of
 
 -- ---- members of sets
@@ -66,8 +63,7 @@ same_pages s a b each =
     one_value : (x y : Option (Unit {0})) → is_some x ≡ is_some y → x ≡ y
     one_value None None e = refl
     one_value (Some u) (Some v) e = refl
-    one_value None (Some v) e = absurd (cc e)
-    one_value (Some u) None e = absurd (cc e)
+    one_value x y e = absurd (cc e)
 
 -- ---- taking
 
@@ -165,9 +161,6 @@ lowest_next s now new ps r p left is found low =
     let one = (rw is at found).0 in lowest_more s now ps p left one.member one.least low
 
 -- ---- giving back
-
-pub giving_none : (s : Pages) → s ≡ with_pages s []
-giving_none s = refl
 
 pub giving_more : (s now next : Pages) (ps : List ℕ) (p : ℕ) → now ≡ with_pages s ps
     → next ≡ record now { members = insert now.members p }

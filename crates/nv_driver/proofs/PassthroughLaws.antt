@@ -27,7 +27,8 @@ module _ {g : Geometry} {mem : PagedBytes} {ls : List QueuePairFields} {more : P
   pub can_pass : {s : Pages} → s ≡ more → HasEntryPages d → {b : BusValue} {e : Sqe} → IsLinked b d → SqeFits e
       → CanPass l.geometry b c l mem.page_size mem.bytes e s
   can_pass same room {b} {e} linked fits =
-      let placed = placed_at at in
+      let first_page = ap (λ (v : QueuePair). v.first_page) (placed_at at) in
+      let pages = ap (λ (v : QueuePair). v.page_count) (placed_at at) in
       let has = rw (length-map ls pair_value) at (subst HasEntryPages (sym at.value) room) in
       let first = pages_of g (length ls) in
       let all : first + (page_count mem - first) ≡ page_count mem = omega (arith, has) in
@@ -38,12 +39,7 @@ module _ {g : Geometry} {mem : PagedBytes} {ls : List QueuePairFields} {more : P
         ready = ready_at at linked;
         fits = fits;
         free = refl;
-        behind = omega (
-          arith,
-          ap (λ (v : QueuePair). v.first_page) placed,
-          ap (λ (v : QueuePair). v.page_count) placed,
-          mul-le-mul_right (pair_pages g) (below at),
-        );
+        behind = omega (arith, first_page, pages, mul-le-mul_right (pair_pages g) (below at));
         inside = omega (arith, ap (λ n. n * g.page_size) all, whole);
         room = omega (arith, has);
       }))
@@ -58,5 +54,4 @@ room_stays d c l room =
 -- a driver that was brought up with the pages of an entry has them
 pub has_pages : (g : Geometry) (n : ℕ) → HasEntryPages (driver_with g n (pages_of_entry g.page_size))
 has_pages g n =
-    subst (λ m. pages_of g m + pages_of_entry g.page_size ≤ pages_of g n + pages_of_entry g.page_size)
-    (sym (length-map-range_with_len (pair_of g) 0 n)) (search arith)
+    rw (length-map-range_with_len (pair_of g) 0 n) (search arith)

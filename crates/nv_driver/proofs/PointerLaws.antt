@@ -1,16 +1,18 @@
--- A command whose pages are prepared: what a controller reads of its entry.
-use Rattle.nv_driver.proofs.Words.{ℕ, ◌*◌, ◌+◌, ◌<◌, ◌>>=◌, ◌^◌, ◌∙◌, ◌≡◌, ◌≤◌, Asked, Call, Err, FromHost, HasRoom}
-use Rattle.nv_driver.proofs.Words.{HoldsSent, IsRequest, KeepsList, List, NoData, Ok, Result, Sent, Setting, Sqe}
-use Rattle.nv_driver.proofs.Words.{StatusCode, StaysNamed, ToHost, Transfer, ap, arith, call_of, cases_lt, command_of}
-use Rattle.nv_driver.proofs.Words.{data_length, div_ceil, div_ceil_times, entry, inl, inr, length, length_of, moves_of}
-use Rattle.nv_driver.proofs.Words.{mul-le-mul_right, page_size_bounds, pages_for, pages_of_entry, places, pointed, refl}
-use Rattle.nv_driver.proofs.Words.{sent_from, sym, transfer_of, within}
-use Rattle.nv_host.specs.Pages.{IsPageSize}
-use Rattle.nv_prp.specs.Buffer.{IsFor, buffer_place, buffer_places}
-use Rattle.nv_prp.proofs.PlaceLaws.{table-same}
+-- The pages of a command: how many it has, that its data and its list fit there, and what a controller reads of its
+-- entry.
+use Rattle.nv_driver.proofs.Words.{[], ℕ, ◌*◌, ◌+◌, ◌<◌, ◌>>=◌, ◌^◌, ◌∙◌, ◌∷◌, ◌≡◌, ◌≤◌, All, AreDistinct, Asked, Call}
+use Rattle.nv_driver.proofs.Words.{CommandPages, Err, Geometry, HasPage, HasRoom, HoldsSent, IsFor, IsGeometry, IsOf}
+use Rattle.nv_driver.proofs.Words.{IsPageSize, IsPlaceFor, IsRequest, KeepsList, LiesInPages, List, NoData, Ok, Pages}
+use Rattle.nv_driver.proofs.Words.{Result, Run, Sent, Setting, Sqe, StatusCode, StaysNamed, Transfer, all_pages, ap}
+use Rattle.nv_driver.proofs.Words.{arith, buffer_place, buffer_places, call_of, cases_lt, command_of, data_count}
+use Rattle.nv_driver.proofs.Words.{data_length, data_places, div_ceil, div_ceil_times, drop, entry, get_or}
+use Rattle.nv_driver.proofs.Words.{greatest_limit, inl, inr, length, length-drop, length-take, length_of, moves_of}
+use Rattle.nv_driver.proofs.Words.{mul-le-mul_right, own_pages, page_size_bounds, pages_for, pages_of_entry, place_in}
+use Rattle.nv_driver.proofs.Words.{places, places_of, pointed, refl, sent_from, subst, suc, sym, table-same}
+use Rattle.nv_driver.proofs.Words.{transfer_of, within}
 use Rattle.nv_prp.specs.Transfer.{IsLegal, PrpTransfer, place_of, transfer, transfer_places}
-use Rattle.nv_bus.specs.Call.{data_places, places_of}
 use Rattle.nv_bus.proofs.CallLaws.{legal_places, no_places}
+use Rattle.std.specs.Prelude.{slice_index}
 use Rattle.nv_driver.proofs.DataLaws.{nothing}
 use Rattle.nv_driver.proofs.RegionLaws.{length-places}
 
@@ -38,6 +40,17 @@ pub entry_pages_few : (size : ℕ) → IsPageSize size → pages_of_entry size �
 entry_pages_few size is =
     let bounds = page_size_bounds size is in
     let whole = (div_ceil_times 1048576 size (omega (arith, bounds))).1 in grind (arith, bounds, whole)
+
+-- the data fits in its pages, which with those of a list are no more than the pages for `most` bytes
+pub data_fits : (g : Geometry) (len most : ℕ) → IsGeometry g → len ≤ most
+    → (g.offset + len ≤ data_count g len * g.page_size) × (data_count g len + 2 ≤ pages_for most g.page_size)
+data_fits g len most is few =
+    enough_of most g.offset len g.page_size (data_count g len) is.page_size is.offset.1 few refl
+
+-- the data of a request and two pages for a list
+pub few_of_entry : (g : Geometry) (len : ℕ) → IsGeometry g → len ≤ greatest_limit → data_count g len + 2 ≤ 259
+few_of_entry g len is few =
+    omega (arith, (data_fits g len greatest_limit is few).1, entry_pages_few g.page_size is.page_size)
 
 -- ---- the data pointer of a command
 
@@ -87,8 +100,7 @@ places_by : (m : Transfer) (page_size : ℕ) (mem : List ℕ) (e : Sqe) (at : Li
     → data_places page_size mem e m ≡ Ok at
 places_by NoData page_size mem e at is size found =
     no_places page_size mem e NoData at refl (nothing at size)
-places_by (ToHost n) page_size mem e at is size found = found is.0
-places_by (FromHost n) page_size mem e at is size found = found is.0
+places_by m page_size mem e at is size found = found is.0
 
 -- the rules after those that come before the data pointer
 abbrev call_with : ℕ → List ℕ → Sqe → Transfer → Result Call StatusCode
@@ -145,3 +157,50 @@ entry_call t x mem can cid stays holds =
     (λ m is. let same : x.request.transfer ≡ m = can.transfer x.cid x.prp1 x.prp2 m cid is in
     rw (← same) (entry_places t x mem can stays, holds))
     (can.asked x.cid x.prp1 x.prp2 cid)
+
+-- pages that stand for those of a slot outside the window
+abbrev pub no_pages : CommandPages
+no_pages = record { numbers = []; count = 0 }
+
+-- how many pages a command has
+pub all_count : (o : CommandPages) → o.count ≤ length o.numbers → length (all_pages o) ≡ o.count
+all_count o few = let h = length-take o.count o.numbers in omega (arith, h, few)
+
+-- the first two, and the rest
+pub first_two : (pages : List ℕ) → 2 ≤ length pages
+    → slice_index pages 0 ∷ slice_index pages 1 ∷ drop 2 pages ≡ pages
+first_two (a ∷ b ∷ rest) h = refl
+first_two pages h = absurd (omega arith)
+
+-- the pages of a command that was sent
+pub own_is : {r : Run} {n : ℕ} {x : Sent} (k : LiesInPages r n x) → own_pages x ≡ k.pages
+own_is k = ap own_pages k.sent ∙ first_two k.pages (omega (arith, k.many))
+
+-- data and a list fit in pages of a set that lies in the memory
+pub place_of_set : (g : Geometry) (s : Pages) (pages bytes : List ℕ) (page_size len : ℕ) → IsGeometry g
+    → page_size ≡ g.page_size → (s.first + s.count) * g.page_size ≤ length bytes
+    → All (λ p. IsOf s.first s.count p) pages → AreDistinct pages → length pages ≡ data_count g len + 2
+    → IsPlaceFor bytes page_size (place_in g pages) len
+place_of_set g s pages bytes page_size len is page inside own distinct many =
+    let two = sym (first_two pages (omega (arith, many))) in
+    let all : All (λ p. HasPage bytes g.page_size p) pages =
+    λ i d h. let most : get_or pages i d + 1 ≤ s.first + s.count = omega (arith, (own i d h).1) in
+    omega (arith, mul-le-mul_right g.page_size most) in
+    let has = subst (All (λ p. HasPage bytes g.page_size p)) two all in
+    let few : length (drop 2 pages) ≡ data_count g len = omega (arith, length-drop 2 pages, many) in
+    rw page (record {
+      is_size = is.page_size;
+      buffer = record {
+        below = is.offset.1;
+        aligned = is.offset.0;
+        enough = rw few (data_fits g len len is (omega arith)).0;
+        inside = λ i d h. has (suc (suc i)) d (omega arith);
+      };
+      list = record {
+        below = is.list_offset.1;
+        aligned = is.list_offset.0;
+        has_first = has 0 0 (omega arith);
+        has_second = has 1 0 (omega arith);
+      };
+      distinct = subst AreDistinct two distinct;
+    })

@@ -1,23 +1,16 @@
 -- Parts of the memory that don't overlap a command's pages, its list or a slot of a ring.
 use Rattle.nv_driver.proofs.Words.{ℕ, ◌*◌, ◌+◌, ◌-◌, ◌/◌, ◌<◌, ◌∙◌, ◌≡◌, ◌≢◌, ◌≤◌, ◌⊎◌, AreApart, AreDistinct}
-use Rattle.nv_driver.proofs.Words.{AreOutside, ChangesOnly, Cqe, HoldsSent, IsApart, IsBuffer, KeepsList, List}
-use Rattle.nv_driver.proofs.Words.{PostNumbers, Sent, Setting, Sqe, SubmitNumbers, ap, arith, bytes_at, cases_lt}
-use Rattle.nv_driver.proofs.Words.{completion_at, cqe_of_bytes, data_length, get_or, get_or-bytes_at, get_or-map}
-use Rattle.nv_driver.proofs.Words.{get_or-table, inl, inr, length, length-read_at, length-table, length-written_at}
-use Rattle.nv_driver.proofs.Words.{mod_below, mul-le-mul_right, own_pages, places, pointed, same_number_lists}
-use Rattle.nv_driver.proofs.Words.{submission_at, suc, sym, with_bytes, with_completion, with_submission}
-use Rattle.std.proofs.lemmas.Nat.{div_below}
+use Rattle.nv_driver.proofs.Words.{AreOutside, ChangesOnly, Cqe, HoldsSent, IsApart, IsBuffer, IsOutside, KeepsList}
+use Rattle.nv_driver.proofs.Words.{List, PagesStay, PostNumbers, Sent, Setting, Sqe, SubmitNumbers, ap, arith}
+use Rattle.nv_driver.proofs.Words.{buffer_distinct, buffer_place, buffer_places, bytes_at, bytes_of_cqe, bytes_of_sqe}
+use Rattle.nv_driver.proofs.Words.{cases_lt, completion_at, cqe_of_bytes, data_length, div_below, get_or}
+use Rattle.nv_driver.proofs.Words.{get_or-bytes_at, get_or-map, get_or-table, inl, inr, length, length-read_at}
+use Rattle.nv_driver.proofs.Words.{length-table, length-written_at, mod_below, mul-le-mul_right, own_pages, part_stays}
+use Rattle.nv_driver.proofs.Words.{places, pointed, read_at, same_number_lists, slot_within, sqe_of_bytes}
+use Rattle.nv_driver.proofs.Words.{submission_at, suc, sym, with_bytes, with_completion, with_submission, written_at}
 use Rattle.nv_host.proofs.BytesLaws.{bytes_at-bytes_at, bytes_at-with_after, bytes_at-with_before}
-use Rattle.nv_layout.specs.Cqe.{bytes_of_cqe}
 use Rattle.nv_layout.proofs.RecordLaws.{length-bytes_of_cqe, length-bytes_of_sqe}
-use Rattle.nv_layout.specs.Sqe.{bytes_of_sqe, sqe_of_bytes}
-use Rattle.nv_prp.specs.Buffer.{IsOutside, buffer_place, buffer_places}
-use Rattle.nv_prp.proofs.BufferLaws.{buffer_distinct}
-use Rattle.nv_prp.specs.Place.{read_at, written_at}
-use Rattle.nv_prp.proofs.PlaceLaws.{part_stays}
 use Rattle.nv_queue.specs.Slots.{completion_place, put_as, submission_place}
-use Rattle.nv_queue.proofs.SlotLaws.{slot_within}
-use Rattle.nv_driver.specs.Schedule.{PagesStay}
 use Rattle.nv_driver.proofs.DataLaws.{ArePlaces, sent_same}
 
 -- ---- places and pages
@@ -45,19 +38,6 @@ place_page page_size pages offset len k some enough below =
       to = omega (arith, is, rest);
     }
 
--- a place is not among the n bytes from `from` on
-abbrev IsBeside : ℕ → ℕ → ℕ → Type 0
-IsBeside place from n = (place < from) ⊎ (from + n ≤ place)
-
--- a place of a command's data is in no part that is outside its pages
-pub place_beside : (page_size : ℕ) (x : Sent) (from n k : ℕ) → 0 < page_size
-    → x.offset + data_length x ≤ length x.pages * page_size → AreOutside page_size x from n
-    → k < data_length x → IsBeside (get_or (places page_size x) k 0) from n
-place_beside page_size x from n k some enough outside below =
-    let page = place_page page_size x.pages x.offset (data_length x) k some enough below in
-    let one = page.is_one in
-    grind (arith, page.from, page.to, outside (suc (suc page.index)) 0 (omega arith))
-
 -- two distinct pages don't overlap
 pages_apart : (page_size p q : ℕ) → p ≢ q
     → (p * page_size + page_size ≤ q * page_size) ⊎ (q * page_size + page_size ≤ p * page_size)
@@ -66,11 +46,6 @@ pages_apart page_size p q differ =
       | inl l ↦ inl (omega (arith, mul-le-mul_right page_size l))
       | inr g ↦ let after : q + 1 ≤ p = omega (arith, differ) in inr (omega (arith, mul-le-mul_right page_size after))
     ]
-
--- a place in one page is outside each other page
-other_page : (page_size p q place : ℕ) → p ≢ q → p * page_size ≤ place
-    → place < p * page_size + page_size → IsOutside page_size q place 1
-other_page page_size p q place differ low high = grind (arith, pages_apart page_size p q differ)
 
 -- if x and y have no page in common, y and x have none
 pub apart-sym : (x y : Sent) → AreApart x y → AreApart y x
@@ -111,7 +86,9 @@ data_keeps page_size x bytes written from n some enough outside =
     part_stays bytes (places page_size x) written from n
     (λ k h.
     let size = length-places page_size x in
-    place_beside page_size x from n k some enough outside (omega arith))
+    let page = place_page page_size x.pages x.offset (data_length x) k some enough (omega arith) in
+    let one = page.is_one in
+    grind (arith, page.from, page.to, outside (suc (suc page.index)) 0 (omega arith)))
 
 -- a part outside a region doesn't change when bytes are written inside
 pub written_keeps : (bytes xs : List ℕ) (base size at from n : ℕ) → base ≤ at → at + length xs ≤ base + size
@@ -203,10 +180,6 @@ holds_sent_on t x old new same holds =
 
 -- ---- the pages of a command's list
 
--- the bytes of another page are outside a page
-whole_page : (page_size p q : ℕ) → p ≢ q → IsOutside page_size q (p * page_size) page_size
-whole_page page_size p q differ = grind (arith, pages_apart page_size p q differ)
-
 -- the list doesn't change when the command's own data is written
 pub written_list : (page_size : ℕ) (x : Sent) (bytes written : List ℕ) → 0 < page_size
     → x.offset + data_length x ≤ length x.pages * page_size → AreDistinct (own_pages x)
@@ -227,11 +200,9 @@ written_list page_size x bytes written some enough distinct = record {
         let at = get_or (places page_size x) k 0 in
         let one = place_page page_size x.pages x.offset (data_length x) k some enough (omega arith) in
         let inside = one.is_one in
-        grind (
-          arith,
-          other_page page_size (get_or x.pages one.index 0) page at
-              (λ same. distinct i (suc (suc one.index)) 0 (omega arith) (omega arith) (sym same)) one.from one.to,
-        ))
+        let apart = pages_apart page_size (get_or x.pages one.index 0) page
+        (λ same. distinct i (suc (suc one.index)) 0 (omega arith) (omega arith) (sym same)) in
+        grind (arith, apart, one.from, one.to))
 
 -- a part outside a page is apart from the bytes of the page
 beside : (page_size page base n : ℕ) → IsOutside page_size page base n → IsApart base n (page * page_size) page_size
@@ -273,5 +244,5 @@ pub stays_apart : (t : Setting) (x y : Sent) (base n : ℕ) (old new : List ℕ)
 stays_apart t x y base n old new some len only enough apart outside =
     same_stays t y old new some len enough (λ i d h. let page = get_or (own_pages y) i d in
     only (page * t.page_size) t.page_size
-    (λ j e low. whole_page t.page_size page (get_or (own_pages x) j e) (apart i d h j e low))
+    (λ j e low. grind (arith, pages_apart t.page_size page (get_or (own_pages x) j e) (apart i d h j e low)))
     (beside t.page_size page base n (outside i d h)))

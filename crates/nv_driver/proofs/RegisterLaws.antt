@@ -1,21 +1,17 @@
 -- The registers of a controller while it is enabled.
 use Rattle.nv_driver.proofs.Words.{ℕ, ◌%◌, ◌*◌, ◌+◌, ◌-◌, ◌/◌, ◌<◌, ◌^◌, ◌∙◌, ◌≡◌, ◌≤◌, BusValue, Geometry, IsGeometry}
-use Rattle.nv_driver.proofs.Words.{List, QueuePair, RegisterBank, ap, arith, bank_at, below_more, enabled_in, false}
-use Rattle.nv_driver.proofs.Words.{get_or-map, get_or-map-range_with_len, get_or-set_other, get_or-set_same}
-use Rattle.nv_driver.proofs.Words.{get_or_default, idle_bank, idle_banks, if◌then◌else◌, is_enabled, length, length-map}
-use Rattle.nv_driver.proofs.Words.{length-map-range_with_len, map, mps_of, nat_tests, new_bank, pair_of, pair_pages}
-use Rattle.nv_driver.proofs.Words.{pairs_of, refl, reset_if, set-get_or, set-set, slice_index_or, state_written, suc}
-use Rattle.nv_driver.proofs.Words.{sym, true, with_queues, with_register_at, zero, zero-add}
+use Rattle.nv_driver.proofs.Words.{IsPageSize, List, QueuePair, RegisterBank, ap, arith, bank_at, below_more, can_start}
+use Rattle.nv_driver.proofs.Words.{enabled_in, false, get_or-map, get_or-map-range_with_len, get_or-set_other}
+use Rattle.nv_driver.proofs.Words.{get_or-set_same, get_or_default, idle_bank, idle_banks, if◌then◌else◌, is_enabled}
+use Rattle.nv_driver.proofs.Words.{length, length-map, length-map-range_with_len, map, mps_of, mul-mod_left, nat_tests}
+use Rattle.nv_driver.proofs.Words.{new_bank, new_rings, pair_of, pair_pages, pairs_of, refl, reset_if, same_lists}
+use Rattle.nv_driver.proofs.Words.{set-get_or, set-set, slice_index_or, state_written, submission_pages, suc, sym, true}
+use Rattle.nv_driver.proofs.Words.{with_cc, with_high, with_low, with_queues, with_register_at, zero-add}
 use Rattle.std.proofs.Common.{slice_set}
-use Rattle.std.proofs.Math.Nat.{mul-mod_left}
-use Rattle.std.proofs.lemmas.List.{same_lists}
-use Rattle.nv_host.specs.Pages.{IsPageSize}
 use Rattle.nv_layout.specs.Bits.{bits}
 use Rattle.nv_register.specs.Dwords.{aqa_of_dword, cc_of_dword}
-use Rattle.nv_register.specs.RegisterBank.{can_start, new_rings, with_cc, with_high, with_low}
 use Rattle.nv_register.specs.declared.register.Sizes.{Sizes}
 use Rattle.nv_register.specs.declared.readiness.Readiness.TheVariants.{Failed, Off, Ready}
-use Rattle.nv_driver.specs.Layout.{submission_pages}
 
 -- ---- writes of one controller, one after another
 
@@ -42,12 +38,8 @@ enabled_at banks c h = get_or-map (λ (p : RegisterBank). is_enabled p.readiness
 -- the dword that is written to CC sets EN, the page size, and the sizes of the entries
 pub cc_written : (m : ℕ) → m ≤ 4
     → cc_of_dword (0x00460001 + m * 128) ≡ record { en = true; sizes = record { mps = m; iosqes = 6; iocqes = 4 } }
-cc_written zero h = refl
-cc_written (suc zero) h = refl
-cc_written (suc (suc zero)) h = refl
-cc_written (suc (suc (suc zero))) h = refl
-cc_written (suc (suc (suc (suc zero)))) h = refl
 cc_written (suc (suc (suc (suc (suc n))))) h = absurd (omega arith)
+cc_written m h = refl
 
 -- MPS of a page size gives back the page size, and is at most 4
 pub page_size_of_mps : (size : ℕ) → IsPageSize size → (2 ^ (12 + mps_of size) ≡ size) × (mps_of size ≤ 4)
@@ -66,14 +58,6 @@ queues_read m h =
 address_read : (old address : ℕ) → with_high (with_low old (address % 2 ^ 32)) (address / 2 ^ 32) ≡ address
 address_read old address = omega arith
 
--- the five writes of a controller that is off
-queues_by : (p : RegisterBank) (l : QueuePair) → p.readiness ≡ Off → l.depth ≤ 4096
-    → with_register_at (with_register_at (with_register_at (with_register_at (with_register_at p 0x24
-    ((l.depth - 1) * 65536 + (l.depth - 1))) 0x28 (l.sq % 2 ^ 32)) 0x2c (l.sq / 2 ^ 32)) 0x30 (l.cq % 2 ^ 32)) 0x34
-    (l.cq / 2 ^ 32) ≡ with_queues p l
-queues_by p l off deep =
-    rw (off, queues_read (l.depth - 1) (omega arith), address_read p.asq l.sq, address_read p.acq l.cq) refl
-
 -- after one more write, the controller has the registers after both writes
 wrote : (a : List RegisterBank) {b e : List RegisterBank} {c : ℕ} (o v : ℕ) (p : RegisterBank) → c < length a
     → b ≡ slice_set a c p → e ≡ slice_set b c (with_register_at (bank_at b c) o v)
@@ -91,9 +75,11 @@ pub queues_written : (a : List RegisterBank) {b d e f k : List RegisterBank} {c 
     → f ≡ slice_set e c (with_register_at (bank_at e c) 0x30 q1)
     → k ≡ slice_set f c (with_register_at (bank_at f c) 0x34 q2) → k ≡ slice_set a c (with_queues (bank_at a c) l)
 queues_written a {c = c} x s1 s2 q1 q2 l h off deep is low high behind above first second third fourth fifth =
+    let p = bank_at a c in
     wrote a 0x34 q2 _ h (wrote a 0x30 q1 _ h (wrote a 0x2c s2 _ h (wrote a 0x28 s1 _ h first second) third) fourth)
     fifth
-    ∙ ap (slice_set a c) (rw (is, low, high, behind, above) (queues_by (bank_at a c) l off deep))
+    ∙ ap (slice_set a c) (rw (is, low, high, behind, above)
+    (rw (off, queues_read (l.depth - 1) (omega arith), address_read p.asq l.sq, address_read p.acq l.cq) refl))
 
 -- ---- EN is set
 

@@ -1,7 +1,7 @@
 -- Commands and any entries with any data from the host are requests.
-use Rattle.nv_driver.proofs.Words.{ℕ, ◌<◌, ◌>>=◌, ◌^◌, ◌∙◌, ◌≡◌, ◌≤◌, Asked, Bool, Command, CommandFits, Err, FromHost}
-use Rattle.nv_driver.proofs.Words.{GoesBy, HasRoom, IsRequest, IsSendable, List, NoData, Ok, Result, Sqe, SqeFits}
-use Rattle.nv_driver.proofs.Words.{StatusCode, ToHost, Transfer, ap, arith, bytes_from_host, command_of}
+use Rattle.nv_driver.proofs.Words.{ℕ, ◌<◌, ◌>>=◌, ◌^◌, ◌∙◌, ◌≡◌, ◌≤◌, Asked, Attachment, Bool, Command, CommandFits}
+use Rattle.nv_driver.proofs.Words.{Err, FromHost, GoesBy, HasRoom, IsRequest, IsSendable, List, NoData, Ok, Result, Sqe}
+use Rattle.nv_driver.proofs.Words.{SqeFits, StatusCode, ToHost, Transfer, ap, arith, bytes_from_host, command_of}
 use Rattle.nv_driver.proofs.Words.{commands_travel, greatest_limit, length_of, limit_bounds, limit_of, lit<, lit≤}
 use Rattle.nv_driver.proofs.Words.{moves_of, refl, request_of, sent_for, subst, sym, transfer_by, transfer_for}
 use Rattle.nv_driver.proofs.Words.{transfer_of, within}
@@ -9,12 +9,9 @@ use Rattle.nv_layout.specs.CtrlList.{ctrl_list_of_bytes}
 use Rattle.nv_command.specs.Decoding.{command_with, decoded_as, decoded_of, opcode_of, transfer_in}
 use Rattle.nv_command.specs.Management.{listed, page_of}
 use Rattle.nv_command.specs.Form.{page_from_host}
-use Rattle.nv_command.specs.declared.command.Command.TheVariants.{Attachment}
 use Rattle.nv_command.specs.declared.decoded.Decoded.{Decoded}
 use Rattle.nv_command.specs.declared.decoded.Opcode.{Opcode}
-use Rattle.nv_command.specs.declared.decoded.Opcode.TheVariants.{FormatNvm, GetFeatures, GetLogPage, Identify}
-use Rattle.nv_command.specs.declared.decoded.Opcode.TheVariants.{NamespaceAttachment, NamespaceManagement, SetFeatures}
-use Rattle.nv_bus.specs.Call.{asked_by}
+use Rattle.nv_command.specs.declared.decoded.Opcode.TheVariants.{Identify}
 use Rattle.nv_bus.proofs.CallLaws.{AskedIf, asked_of, has_room, namespace_in, within_few, within_limit}
 use Rattle.nv_driver.specs.Request.{EveryCommandIsRequest, EveryEntryIsRequest, entry_as, moved_by}
 use Rattle.nv_driver.proofs.PaddingLaws.{length-padded}
@@ -29,10 +26,6 @@ shape_room NoData is = tt
 shape_room (ToHost n) is = (is.0, omega (arith, is.1))
 shape_room (FromHost n) is = (omega (arith, is), omega (arith, is))
 
--- a result has a single value
-moves_same : (r : Result Transfer StatusCode) (m n : Transfer) → r ≡ Ok m → r ≡ Ok n → m ≡ n
-moves_same r m n is other = cc
-
 -- it is one for each controller, whose limit is at least four pages
 pub is_request : (limit : ℕ) (k : Command) → 16384 ≤ limit → CommandFits k → IsSendable k
     → IsRequest limit (request_of k)
@@ -46,8 +39,7 @@ is_request limit k enough fits sends =
     record {
       fits = zero_id.fits;
       room = shape_room m (shape k sends);
-      transfer = λ cid p q n low is.
-          moves_same (moves_of limit (entry_as (request_of k) cid p q)) m n (moves cid p q low) is;
+      transfer = λ cid p q n low is. cc (moves cid p q low);
       asked = λ cid p q low. let e = entry_as (request_of k) cid p q in
           ap (λ (r : Result Transfer StatusCode). r >>= (λ _. command_of e (request_of k).sends)) (moves cid p q low)
           ∙ (commands_travel k cid fits low).command p q;
@@ -70,28 +62,11 @@ elsewhere e cid prp1 prp2 = record e { cid = cid; prp1 = prp1; prp2 = prp2 }
 same_decoding : (r : Result Opcode StatusCode) (e : Sqe) (cid p q : ℕ)
     → (r >>= (λ o. decoded_as o (elsewhere e cid p q))) ≡ (r >>= (λ o. decoded_as o e))
 same_decoding (Ok Identify) e cid p q = refl
-same_decoding (Ok NamespaceManagement) e cid p q = refl
-same_decoding (Ok NamespaceAttachment) e cid p q = refl
-same_decoding (Ok FormatNvm) e cid p q = refl
-same_decoding (Ok GetFeatures) e cid p q = refl
-same_decoding (Ok SetFeatures) e cid p q = refl
-same_decoding (Ok GetLogPage) e cid p q = refl
-same_decoding (Err code) e cid p q = refl
+same_decoding r e cid p q = refl
 
 -- the data transfer of what an entry asks for, within a limit
 abbrev moves_as : ℕ → Result Decoded StatusCode → Result Transfer StatusCode
 moves_as limit r = (r >>= (λ asked. Ok (transfer_in asked))) >>= within limit
-
--- the data transfer of an entry doesn't depend on its command identifier and its data pointer
-same_moves : (limit : ℕ) (e : Sqe) (cid p q : ℕ) → moves_of limit (elsewhere e cid p q) ≡ moves_of limit e
-same_moves limit e cid p q = ap (moves_as limit) (same_decoding (opcode_of e) e cid p q)
-
--- what an entry and its data ask for doesn't depend on its command identifier and its data pointer
-same_asked : (limit : ℕ) (e : Sqe) (cid p q : ℕ) (bytes : List ℕ)
-    → asked_by limit (elsewhere e cid p q) bytes ≡ asked_by limit e bytes
-same_asked limit e cid p q bytes =
-    ap (λ (r : Result Decoded StatusCode). moves_as limit r >>= (λ m. r >>= (λ asked. command_with asked bytes)))
-    (same_decoding (opcode_of e) e cid p q)
 
 -- ---- the data of a command is transferred as that of its entry
 
@@ -163,8 +138,10 @@ every_entry limit e bytes low fits =
       fits = fits;
       room = room_of (moves_of greatest_limit e) e refl;
       transfer = λ cid p q m small is.
-          ap moved_by (let_through limit e m low (sym (same_moves limit e cid p q) ∙ is));
-      asked = λ cid p q small. same_asked limit e cid p q sends;
+          ap moved_by (let_through limit e m low
+          (sym (ap (moves_as limit) (same_decoding (opcode_of e) e cid p q)) ∙ is));
+      asked = λ cid p q small. ap (λ (r : Result Decoded StatusCode). moves_as limit r
+          >>= (λ m. r >>= (λ asked. command_with asked sends))) (same_decoding (opcode_of e) e cid p q);
       sends = length-padded (bytes_from_host (transfer_for e)) bytes;
       command = goes_by (moves_of limit e) limit e sends low fits refl;
     }

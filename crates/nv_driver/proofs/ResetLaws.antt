@@ -4,11 +4,9 @@ use Rattle.nv_driver.proofs.Words.{IsLeft, IsPlaced, IsQuiet, IsReady, KeepsBelo
 use Rattle.nv_driver.proofs.Words.{RegisterBank, State, ap, arith, bank_at, bytes_at, enabled_in, get_or-set_same}
 use Rattle.nv_driver.proofs.Words.{idle_bank, if◌then◌else◌, is_enabled, length, length-map, length-replicate}
 use Rattle.nv_driver.proofs.Words.{length-set, mps_of, new_bank, pair_of, pair_value, refl, renewed_pair, replicate}
-use Rattle.nv_driver.proofs.Words.{reset_first, reset_if, side, slice_set, subst, sym, with_bytes, with_queues}
-use Rattle.nv_driver.proofs.Words.{with_register_at}
+use Rattle.nv_driver.proofs.Words.{reset, reset_first, reset_first_more, reset_if, reset_where, side, slice_set, subst}
+use Rattle.nv_driver.proofs.Words.{sym, with_bytes, with_queues, with_register_at}
 use Rattle.nv_host.proofs.BytesLaws.{length-with_bytes}
-use Rattle.nv_model.specs.Step.{reset, reset_where}
-use Rattle.nv_model.proofs.ResetLaws.{reset_first_more}
 use Rattle.nv_driver.proofs.RegionLaws.{written_keeps}
 use Rattle.nv_driver.proofs.RegisterLaws.{enabled_at, kept_queues}
 
@@ -18,36 +16,27 @@ use Rattle.nv_driver.proofs.RegisterLaws.{enabled_at, kept_queues}
 abbrev pub zeros : QueuePairFields → List ℕ
 zeros l = replicate (16 * l.completion.depth) 0
 
--- the ring is between the submission ring and the pages
-record RingLies (page_size size : ℕ) (l : QueuePairFields) : Type 0 where
-  pub low : l.submission.base ≤ l.completion.base
-  pub high : l.completion.base + length (zeros l) ≤ (l.pages.first + l.pages.count) * page_size
-  pub inside : l.completion.base + length (zeros l) ≤ size
-
--- the completion ring of a queue pair lies between its submission ring and its pages
-ring_lies : {page_size size : ℕ} {l : QueuePairFields} → IsQuiet l → IsLaid page_size size (pair_value l)
-    → RingLies page_size size l
-ring_lies {l = l} quiet laid =
-    let many = length-replicate {A = ℕ} (16 * l.completion.depth) 0 in omega (arith, laid, quiet.depth)
-
 -- zeroing a completion ring keeps the length of the memory
 pub zeroed_length : {page_size : ℕ} {l : QueuePairFields} (old new : List ℕ) → IsQuiet l
     → IsLaid page_size (length old) (pair_value l)
     → new ≡ with_bytes old l.completion.base (zeros l) → length new ≡ length old
 zeroed_length {l = l} old new quiet laid zeroed =
+    let many = length-replicate {A = ℕ} (16 * l.completion.depth) 0 in
     ap (λ (bs : List ℕ). length bs) zeroed ∙ length-with_bytes old l.completion.base (zeros l)
-    (ring_lies quiet laid).inside
+    (omega (arith, many, laid, quiet.depth))
 
 -- zeroing a completion ring doesn't change bytes outside the queue pair
 pub zeroed_others : {page_size : ℕ} {l : QueuePairFields} (old new : List ℕ) → IsQuiet l
     → IsLaid page_size (length old) (pair_value l)
     → new ≡ with_bytes old l.completion.base (zeros l) → (end : ℕ)
     → KeepsBelow end page_size (pair_value l) old new
-zeroed_others {l = l} old new quiet laid zeroed end from n low apart =
-    let lies = ring_lies quiet laid in
+zeroed_others {page_size} {l} old new quiet laid zeroed end from n low apart =
+    let many = length-replicate {A = ℕ} (16 * l.completion.depth) 0 in
+    let inside : l.completion.base + length (zeros l) ≤ (l.pages.first + l.pages.count) * page_size =
+    omega (arith, many, laid, quiet.depth) in
     ap (λ bs. bytes_at bs from n) zeroed
-    ∙ written_keeps old (zeros l) l.submission.base _ l.completion.base from n lies.low
-    (omega (arith, lies.high, lies.low)) lies.inside apart
+    ∙ written_keeps old (zeros l) l.submission.base _ l.completion.base from n (omega (arith, laid))
+    (omega (arith, inside, laid)) (omega (arith, inside, laid)) apart
 
 -- ---- each enabled one
 

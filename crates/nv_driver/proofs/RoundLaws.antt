@@ -1,28 +1,22 @@
 -- A list of requests while it is executed: doorbells, turns and answers.
 use Rattle.nv_driver.proofs.Words.{[], ℕ, ◌%◌, ◌++◌, ◌+◌, ◌-◌, ◌<◌, ◌∙◌, ◌∷◌, ◌≡◌, ◌≢◌, ◌≤◌, All, AllPairs, Answer}
 use Rattle.nv_driver.proofs.Words.{AreReceived, AreTaken, Batch, Bell, BusTurn, BusValue, Collect, Command}
-use Rattle.nv_driver.proofs.Words.{CommandPages, Cqe, DoesNext, Event, HasAnswers, Holds, IsAnswered, IsBuffer, IsBus}
-use Rattle.nv_driver.proofs.Words.{IsDue, IsHeard, IsHeld, IsOf, IsOnWay, IsPlaceFor, IsReadable, IsRunOf, IsSendable}
-use Rattle.nv_driver.proofs.Words.{IsTold, IsToldInTime, IsUnderWay, LiesInPages, List, Pages, QueuePairFields, Request}
-use Rattle.nv_driver.proofs.Words.{RequestPlace, Requests, Run, Sent, Status, TailWrite, Tell, Turn, Write}
-use Rattle.nv_driver.proofs.Words.{CommandResult}
-use Rattle.nv_driver.proofs.Words.{add-one, all_pages, answer_to, answers_to, ap, arith, awaited_completion, bank_at}
-use Rattle.nv_driver.proofs.Words.{collected_one, completion_at, false, free_pages, from_cid, get_or, get_or_default}
-use Rattle.nv_driver.proofs.Words.{greatest_limit, held_pages, inl, inr, known_to, length, length-append, length-set}
-use Rattle.nv_driver.proofs.Words.{length-take, length_of, min, own_pages, pages_of_all, place_in, received_from, refl}
-use Rattle.nv_driver.proofs.Words.{request_of, set, setting_of, slice_set, slot, state_after_all, step_after, subst}
-use Rattle.nv_driver.proofs.Words.{sym, take, take_more, take_more_set, transfer_by, true, way, with_pages}
-use Rattle.nv_driver.proofs.Words.{with_register_at, without, world_of}
-use Rattle.nv_driver.specs.Schedule.{answer_from, places as places_of}
-use Rattle.nv_queue.specs.Numbers.{slot_of}
-use Rattle.nv_driver.specs.UnderWay.{IsToReport, TookNothing}
-use Rattle.nv_prp.specs.Buffer.{buffer_places}
-use Rattle.std.proofs.Math.Seq.{drop-cons}
-use Rattle.nv_driver.proofs.CommandPageLaws.{own_is, place_of_set}
+use Rattle.nv_driver.proofs.Words.{CommandPages, CommandResult, Cqe, DoesNext, Event, HasAnswers, IsAnswered, IsBuffer}
+use Rattle.nv_driver.proofs.Words.{IsBus, IsDue, IsHeard, IsHeld, IsOf, IsOnWay, IsPlaceFor, IsReadable, IsRunOf}
+use Rattle.nv_driver.proofs.Words.{IsSendable, IsToReport, IsTold, IsToldInTime, IsUnderWay, LiesInPages, List, Pages}
+use Rattle.nv_driver.proofs.Words.{QueuePairFields, Request, RequestPlace, Requests, Run, Sent, Status, TailWrite, Tell}
+use Rattle.nv_driver.proofs.Words.{TookNothing, Turn, Write, add-one, all_pages, answer_from, answer_to, answers_to, ap}
+use Rattle.nv_driver.proofs.Words.{arith, awaited_completion, bank_at, buffer_places, collected_one, completion_at}
+use Rattle.nv_driver.proofs.Words.{drop-cons, false, free_pages, from_cid, get_or, get_or_default, greatest_limit}
+use Rattle.nv_driver.proofs.Words.{held_pages, inl, inr, known_to, length, length-append, length-set, length-take}
+use Rattle.nv_driver.proofs.Words.{length_of, min, own_pages, pages_of_all, place_in, places as places_of}
+use Rattle.nv_driver.proofs.Words.{received_from, refl, request_of, set, setting_of, slice_set, slot, slot_of}
+use Rattle.nv_driver.proofs.Words.{state_after_all, step_after, subst, sym, take, take_more, take_more_set, transfer_by}
+use Rattle.nv_driver.proofs.Words.{true, way, with_pages, with_register_at, without, world_of}
+use Rattle.nv_driver.proofs.PointerLaws.{entry_pages_few, own_is, place_of_set}
 use Rattle.nv_driver.proofs.WindowPageLaws.{given_back, gone, taken_first, taken_rest}
 use Rattle.nv_driver.proofs.BatchLaws.{answer_at, answers_are, length-answers, state_is}
 use Rattle.nv_driver.proofs.UnderWayLaws.{counts, few_of, has_collected, held, is_full, request_is, room_few, world}
-use Rattle.nv_driver.proofs.PointerLaws.{entry_pages_few}
 use Rattle.nv_driver.proofs.TurnLaws.{no_command}
 use Rattle.std.specs.FinMap as map_of
 use Rattle.nv_driver.specs.declared.requests.Requests.TheVariants as sends
@@ -85,11 +79,9 @@ module _ {B : Type 0} {wrote : Write B} {rang : TailWrite B} {turned : BusTurn B
         omega (arith, more, u.sent),
       ) in
       let put = sent ∙ ap (slot (setting_of r)) (sym u.sent) in
-      let its_call = subst (λ n. wrote on r.controller 0x1000 n on') put
-      (subst (λ c. wrote on c 0x1000 value on') u.controller its_write) in
-      goes_on (Bell ∷ u.course.events) refl (subst (λ n. IsOnWay (DoesNext wrote rang turned r) start
-      (way r (W.more_events u.on_way Bell) n turns b.told) bus' on' l now bytes) u.sent
-      (W.rings u.on_way {on' = on'} u.controller put state banks lawful (its_time, (its_call, its_ring)))) (λ h. h)
+      let its_call = rw (put, u.controller) at its_write in
+      goes_on (Bell ∷ u.course.events) refl (rw u.sent at (W.rings u.on_way {on' = on'} u.controller put state banks
+      lawful (its_time, (its_call, its_ring)))) (λ h. h)
 
   -- the head doorbell was rung for all collected answers
   pub tells_on : {bus' : BusValue} {on' : B} {l' : QueuePairFields} → IsTold b.ctrl l bus l' bus'
@@ -99,13 +91,9 @@ module _ {B : Type 0} {wrote : Write B} {rang : TailWrite B} {turned : BusTurn B
       → IsUnderWay wrote rang turned start r bells turns (record b { told = b.collected }) bus' on' l' now bytes places
   tells_on {bus'} {on'} {l'} t its_write some to_report =
       let more : b.told < length u.course.answers = omega (arith, some, u.collected) in
-      let its_call = subst (λ n. wrote on r.controller 0x1004 n on') (W.head_at u.on_way)
-      (subst (λ c. wrote on c 0x1004 (slot_of l.completion.depth l.completion.collected) on') u.controller
-      (its_write (W.untold_is u.on_way more))) in
+      let its_call = rw (W.head_at u.on_way, u.controller) at (its_write (W.untold_is u.on_way more)) in
       goes_on (Tell ∷ u.course.events) (ap (λ (o : QueuePairFields). o.pages) t.pair)
-      (subst (λ n. IsOnWay (DoesNext wrote rang turned r) start (way r (W.more_events u.on_way Tell) bells turns n)
-      bus' on' l' now bytes) u.collected
-      (W.tells_on u.on_way {on' = on'} u.controller more t ((more, to_report), its_call))) (λ h. h)
+      (rw u.collected at (W.tells_on u.on_way {on' = on'} u.controller more t ((more, to_report), its_call))) (λ h. h)
 
   -- the controller had a turn
   module _ {bus' : BusValue} {on' : B} {now' asked most count : ℕ} {mem : List ℕ}
@@ -126,8 +114,7 @@ module _ {B : Type 0} {wrote : Write B} {rang : TailWrite B} {turned : BusTurn B
           its_pace,
           u.awake,
         ) in
-        let its_call = subst (λ n. turned on bytes r.controller n count on' mem) pace
-        (subst (λ c. turned on bytes c asked count on' mem) u.controller its_turn) in
+        let its_call = rw (pace, u.controller) at its_turn in
         W.turned u.on_way {on' = on'} u.controller pace turn lawful size page (its_time, (count, refl, its_call))
 
     -- it took as many requests as the counts allow
@@ -147,17 +134,11 @@ module _ {B : Type 0} {wrote : Write B} {rang : TailWrite B} {turned : BusTurn B
         → b.told < b.collected
         → IsUnderWay wrote rang turned start r bells turns (record b { told = b.collected }) bus2 on2 l2 now' mem places
     turns_idly {bus2} {on2} {l2} none t its_write more_told =
-        let v = subst (λ n. IsOnWay (DoesNext wrote rang turned r) start
-        (way r (W.more_events u.on_way (Turn most)) bells n b.told) bus' on' l now' mem)
-        (let same : turns + count ≡ turns = omega (arith, none) in same) turn_on.0 in
+        let same : turns + count ≡ turns = omega (arith, none) in
+        let v = rw same at turn_on.0 in
         let more : b.told < length u.course.answers = omega (arith, more_told, u.collected) in
-        let its_call = subst (λ n. wrote on' r.controller 0x1004 n on2) (W.head_at v)
-        (subst (λ c. wrote on' c 0x1004 (slot_of l.completion.depth l.completion.collected) on2) u.controller
-        (its_write (W.untold_is v more))) in
-        goes_on (Tell ∷ Turn most ∷ u.course.events) (ap (λ (o : QueuePairFields). o.pages) t.pair)
-        (subst (λ n. IsOnWay (DoesNext wrote rang turned r) start
-        (way r (record u.course { events = Tell ∷ Turn most ∷ u.course.events }) bells turns n) bus2 on2 l2 now' mem)
-        u.collected
+        let its_call = rw (W.head_at v, u.controller) at (its_write (W.untold_is v more)) in
+        goes_on (Tell ∷ Turn most ∷ u.course.events) (ap (λ (o : QueuePairFields). o.pages) t.pair) (rw u.collected at
         (W.tells_on v {on' = on2} u.controller more t ((more, inr (inl (u.collected ∙ sym all))), its_call))) (λ h. h)
 
   -- the state is the one after the requests that turns took
@@ -187,10 +168,6 @@ module _ {B : Type 0} {wrote : Write B} {rang : TailWrite B} {turned : BusTurn B
     pub number_inside : b.collected < length r.requests
     number_inside = omega (arith, more, no_more, u.some)
 
-    -- the awaited answer is held
-    held_here : Holds (setting_of r) r.bus.state (world u) b.collected next_one
-    held_here = u.keeps.held b.collected no_command (omega (arith, u.collected)) more
-
     -- the request whose answer is awaited was sent with its data in its pages
     pub kept_here : LiesInPages r b.collected next_one
     kept_here = u.kept b.collected no_command (omega (arith, no_more, more))
@@ -216,13 +193,13 @@ module _ {B : Type 0} {wrote : Write B} {rang : TailWrite B} {turned : BusTurn B
         (subst (All (λ n. IsOf r.pair.pages.first r.pair.pages.count n)) (own_is kept_here) first.own)
         (subst (AllPairs (λ n m. n ≢ m)) (own_is kept_here) first.distinct) kept_here.many
 
-    module _ {o : CommandPages} (here : o ≡ get_or places (b.collected % 16) o) where
-      -- what was put into its slot are its pages
-      pub held_one : IsHeld o next_one
-      held_one = subst (λ p. IsHeld p next_one) (sym here) (held_at o)
+    module _ (e : CommandPages) where
+      -- what is in its slot
+      abbrev o : CommandPages
+      o = get_or places (b.collected % 16) e
 
       all_is : held u ≡ all_pages o ++ held_pages (b.collected + 1) u.course.sent
-      all_is = held_is ∙ ap (λ ps. ps ++ held_pages (b.collected + 1) u.course.sent) (sym held_one.pages)
+      all_is = held_is ∙ ap (λ ps. ps ++ held_pages (b.collected + 1) u.course.sent) (sym (held_at e).pages)
 
       taken_all : AreTaken r.pair.pages (all_pages o ++ held_pages (b.collected + 1) u.course.sent)
       taken_all = subst (AreTaken r.pair.pages) all_is u.taken
@@ -232,14 +209,9 @@ module _ {B : Type 0} {wrote : Write B} {rang : TailWrite B} {turned : BusTurn B
       count_few =
           let pages = few_of u greatest_limit (λ i d h. room_few _ (u.can i d h).room) kept_here
           (omega (arith, no_more, more)) in
-          omega (
-            arith,
-            pages,
-            ap (λ (ps : List ℕ). length ps) held_one.pages,
-            length-take o.count o.numbers,
-            held_one.few,
-            entry_pages_few r.geometry.page_size u.begun.geometry.page_size,
-          )
+          let its = held_at e in
+          let most = entry_pages_few r.geometry.page_size u.begun.geometry.page_size in
+          omega (arith, pages, most, its.few, ap (λ (ps : List ℕ). length ps) its.pages, length-take o.count o.numbers)
 
       -- they can be given back
       pub can_give : {s : Pages} → s ≡ l.pages → CanGive s o
@@ -264,15 +236,16 @@ module _ {B : Type 0} {wrote : Write B} {rang : TailWrite B} {turned : BusTurn B
           ∙ ap (λ n. completion_at bytes (setting_of r).cq (slot (setting_of r) n)) u.collected
 
       -- the awaited completion was collected, and the pages were given back
-      pub collects : {o : CommandPages} {l1 l' : QueuePairFields} → o ≡ get_or places (b.collected % 16) o
+      pub collects : (e : CommandPages) {l1 l' : QueuePairFields}
           → l1 ≡ record l { submission = known_to l.submission p.sq_head; completion = collected_one l.completion }
-          → l' ≡ record l1 { pages = with_pages l1.pages (all_pages o) } → IsToldInTime r b
+          → l' ≡ record l1 { pages = with_pages l1.pages (all_pages (o e)) } → IsToldInTime r b
           → IsUnderWay wrote rang turned start r bells turns (record b { collected = b.collected + 1 }) bus on l' now
           bytes
           places
-      collects {o} here first back near =
+      collects e first back near =
           let window : b.sent ≤ b.collected + 1 + r.geometry.window = omega (arith, u.window) in
-          let all = back ∙ ap (λ (x : QueuePairFields). record x { pages = with_pages x.pages (all_pages o) }) first in
+          let all = back
+          ∙ ap (λ (x : QueuePairFields). record x { pages = with_pages x.pages (all_pages (o e)) }) first in
           record {
             course = record u.course {
               answers = u.course.answers ++ W.answer_next u.on_way awaits ∷ [];
@@ -289,11 +262,11 @@ module _ {B : Type 0} {wrote : Write B} {rang : TailWrite B} {turned : BusTurn B
               requests = u.requests;
               kept = u.kept;
               own = u.own;
-              taken = taken_rest r.pair.pages (all_pages o) _ (taken_all here);
+              taken = taken_rest r.pair.pages (all_pages (o e)) _ (taken_all e);
             };
             collected = length-append u.course.answers (W.answer_next u.on_way awaits ∷ [])
                 ∙ ap (λ n. n + 1) u.collected;
-            left = ap (λ (x : QueuePairFields). x.pages) all ∙ pages_back here;
+            left = ap (λ (x : QueuePairFields). x.pages) all ∙ pages_back e;
             room = u.room;
             slots = u.slots;
           }
@@ -305,7 +278,7 @@ module _ {B : Type 0} {wrote : Write B} {rang : TailWrite B} {turned : BusTurn B
           (step_after r.controller r.bus.state u.course.sent b.collected next_one).answer
       answer_here = subst (λ e. IsAnswered r.geometry.page_size next_one bytes e
           (step_after r.controller r.bus.state u.course.sent b.collected next_one).answer)
-          (sym completion_is) held_here.answer
+          (sym completion_is) (u.keeps.held b.collected no_command (omega (arith, u.collected)) more).answer
 
       -- what it says and the first request's pages hold the answer to that
       pub hears : b.collected ≡ 0 → {last : CommandResult} → last ≡ command_result_with p.command_specific p.status
@@ -330,50 +303,29 @@ module _ {B : Type 0} {wrote : Write B} {rang : TailWrite B} {turned : BusTurn B
         same = request_is kept_here ∙ get_or_default r.requests b.collected next_one.request q number_inside
             ∙ sym of_run
 
-        module _ {at : RequestPlace} {size : ℕ} {o : CommandPages} (mine : o ≡ get_or places (b.collected % 16) o)
-            (its : at ≡ place_in r.geometry (all_pages o)) (page : size ≡ r.geometry.page_size) where
-          pages_same : all_pages o ≡ kept_here.pages
-          pages_same = (held_one mine).pages ∙ own_is kept_here
+        module _ {at : RequestPlace} {size : ℕ} (e : CommandPages) (its : at ≡ place_in r.geometry (all_pages (o e)))
+            (page : size ≡ r.geometry.page_size) where
+          -- its place is that of the request that was sent
+          at_is : at ≡ place_in r.geometry kept_here.pages
+          at_is = its ∙ ap (place_in r.geometry) ((held_at e).pages ∙ own_is kept_here)
 
           -- the data of request q in these pages has the places of the request
           pub places_are : buffer_places size at.pages at.offset (length_of q.transfer)
               ≡ places_of r.geometry.page_size next_one
           places_are =
               let n = length_of q.transfer in
-              cc (
-                page,
-                its ∙ ap (place_in r.geometry) pages_same,
-                ap (λ (x : Sent). buffer_places r.geometry.page_size x.pages x.offset n) kept_here.sent,
-                ap (λ (e : Request). buffer_places r.geometry.page_size next_one.pages next_one.offset
-                    (length_of e.transfer)) same,
-              )
+              let kept = ap (λ (x : Sent). buffer_places r.geometry.page_size x.pages x.offset n) kept_here.sent in
+              let long = ap (λ (e : Request). buffer_places r.geometry.page_size next_one.pages next_one.offset
+              (length_of e.transfer)) same in
+              cc (page, at_is, kept, long)
 
           -- its data lies in its place
           pub answer_buffer : IsBuffer bytes size at.pages at.offset (length_of q.transfer)
-          answer_buffer =
-              rw (
-                page,
-                its ∙ ap (place_in r.geometry) pages_same,
-                ap (λ (e : Request). length_of e.transfer) (sym same),
-              ) own_place.buffer
+          answer_buffer = rw (page, at_is, ap (λ (e : Request). length_of e.transfer) (sym same)) own_place.buffer
 
       module _ {k : Command} (of_run : request_of k ≡ get_or r.requests b.collected (request_of k))
-          (sends : IsSendable k) {at : RequestPlace} {size : ℕ} {o : CommandPages}
-          (mine : o ≡ get_or places (b.collected % 16) o) (its : at ≡ place_in r.geometry (all_pages o))
-          (page : size ≡ r.geometry.page_size) where
-        -- the answer that is read is the one that the requests get one at a time
-        answer_is : (d : Answer) → answer_from k p (received_from (transfer_by k) bytes
-            (buffer_places size at.pages at.offset (length_of (transfer_by k))))
-            ≡ get_or (answers_to r.controller r.bus.state u.course.sent) b.collected d
-        answer_is d =
-            let page_size = r.geometry.page_size in
-            ap (λ ps. answer_from k p (received_from (transfer_by k) bytes ps)) (places_are of_run mine its page)
-            ∙ ap (λ (e : Request). answer_to e.asked p
-            (received_from e.transfer bytes (places_of page_size next_one))) (sym (same of_run))
-            ∙ answer_here.reads (subst (λ (e : Request). IsReadable e.asked) (sym (same of_run)) sends)
-            ∙ sym (answer_at r.controller r.bus.state u.course.sent b.collected no_command d
-            (omega (arith, no_more, more, u.sent)))
-
+          (sends : IsSendable k) {at : RequestPlace} {size : ℕ} (e : CommandPages)
+          (its : at ≡ place_in r.geometry (all_pages (o e))) (page : size ≡ r.geometry.page_size) where
         -- the answer that is read is the next one of the list
         pub answers_more : {answers : List Answer} {a : Answer} → HasAnswers r b.collected answers
             → a ≡ answer_from k p (received_from (transfer_by k) bytes
@@ -390,7 +342,12 @@ module _ {B : Type 0} {wrote : Write B} {rang : TailWrite B} {turned : BusTurn B
               len = length-set answers b.collected a ∙ has.len;
               first = take_more_set answers b.collected a (omega (arith, has.len, number_inside))
                   ∙ ap (λ ys. ys ++ a ∷ []) (has.first ∙ sym (all b.collected (omega (arith, few))))
-                  ∙ ap (λ y. take b.collected (answers_to c state xs) ++ y ∷ []) (value ∙ answer_is a)
+                  ∙ ap (λ y. take b.collected (answers_to c state xs) ++ y ∷ []) (value
+                  ∙ ap (λ ps. answer_from k p (received_from (transfer_by k) bytes ps)) (places_are of_run e its page)
+                  ∙ ap (λ (e : Request). answer_to e.asked p (received_from e.transfer bytes
+                  (places_of r.geometry.page_size next_one))) (sym (same of_run))
+                  ∙ answer_here.reads (subst (λ (e : Request). IsReadable e.asked) (sym (same of_run)) sends)
+                  ∙ sym (answer_at c state xs b.collected no_command a (omega (arith, few, more, u.sent))))
                   ∙ sym (take_more (answers_to c state xs) b.collected a (omega (arith, size, u.sent, few, more)))
                   ∙ all (b.collected + 1) (omega (arith, few, more));
             }

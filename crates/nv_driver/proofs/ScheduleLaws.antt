@@ -1,9 +1,9 @@
 -- Bytes that don't change, writes elsewhere, and every schedule.
-use Rattle.nv_driver.proofs.Words.{[], ℕ, ◌++◌, ◌+◌, ◌<◌, ◌∙◌, ◌∷◌, ◌≡◌, ◌≢◌, ◌≤◌, All, AreOthers, Bell, Collect, Cqe}
-use Rattle.nv_driver.proofs.Words.{Event, Happens, HasRings, Keeps, List, OthersStay, Sent, Setting, State, Submit}
-use Rattle.nv_driver.proofs.Words.{Tell, Turn, World, answer_awaited, ap, arith, get_or, inl, inr, length}
-use Rattle.nv_driver.proofs.Words.{length-append, page_size_bounds, refl, slot, subst, suc, sym}
-use Rattle.nv_driver.specs.Schedule.{Elsewhere, EveryScheduleIsSerial, IsSerial, LeavesOutstanding, Runs}
+use Rattle.nv_driver.proofs.Words.{[], ℕ, ◌++◌, ◌+◌, ◌<◌, ◌∙◌, ◌∷◌, ◌≡◌, ◌≢◌, ◌≤◌, All, Bell, Collect, Cqe, Elsewhere}
+use Rattle.nv_driver.proofs.Words.{Event, EveryScheduleIsSerial, Happens, HasRings, Keeps, LeavesOutstanding, List}
+use Rattle.nv_driver.proofs.Words.{OthersStay, Runs, Sent, Setting, State, Submit, Tell, Turn, World, answer_awaited}
+use Rattle.nv_driver.proofs.Words.{ap, arith, get_or, inl, inr, length, length-append, page_size_bounds, refl, slot}
+use Rattle.nv_driver.proofs.Words.{subst, suc, sym}
 use Rattle.nv_driver.proofs.SubmitLaws.{submit_keeps, submit_others}
 use Rattle.nv_driver.proofs.TurnLaws.{turn_keeps, turn_leaves, turn_takes}
 use Rattle.nv_driver.proofs.CountLaws.{slot_inside}
@@ -18,26 +18,17 @@ use Rattle.nv_driver.proofs.KeptLaws.{bell_keeps, collect_keeps, idle_keeps, is_
 pub others_now : (t : Setting) (w : World) → OthersStay t (length w.answers) w.mem w
 others_now t w = record { since = omega arith; same = λ from n apart. refl }
 
--- what is in no page of the commands from one on is in no page of those from a later one on
-later_others : (t : Setting) (first later : ℕ) (sent : List Sent) (from n : ℕ) → first ≤ later
-    → AreOthers t first sent from n → AreOthers t later sent from n
-later_others t first later sent from n order apart = record {
-  submissions = apart.submissions;
-  completions = apart.completions;
-  pages = λ i d low high. apart.pages i d (omega (arith, order, low)) high;
-}
-
 -- ringing the tail doorbell changes no other bytes
 pub bell_others : (t : Setting) (first : ℕ) (old : List ℕ) (w w' : World) → OthersStay t first old w
     → Happens t Bell w w' → OthersStay t first old w'
 bell_others t first old w w' stay happens =
-    subst (OthersStay t first old) (sym happens) (record { since = stay.since; same = stay.same })
+    rw happens (assumption stay)
 
 -- ringing the head doorbell changes no other bytes
 pub tell_others : (t : Setting) (first : ℕ) (old : List ℕ) (w w' : World) → OthersStay t first old w
     → Happens t Tell w w' → OthersStay t first old w'
 tell_others t first old w w' stay happens =
-    subst (OthersStay t first old) (sym happens) (record { since = stay.since; same = stay.same })
+    rw happens (assumption stay)
 
 -- collecting changes no other bytes
 pub collect_others : (t : Setting) (first : ℕ) (old : List ℕ) (w w' : World) → OthersStay t first old w
@@ -54,10 +45,11 @@ pub turn_others : (t : Setting) (s : State) (first : ℕ) (old : List ℕ) (most
 turn_others t s first old most w w' keeps stay happens =
     subst (OthersStay t first old) (sym happens.2) (record {
       since = stay.since;
-      same = λ from n apart.
-          turn_leaves t s most w w' keeps happens from n
-          (later_others t first (length w.answers) w.sent from n stay.since apart)
-          ∙ stay.same from n apart;
+      same = λ from n apart. turn_leaves t s most w w' keeps happens from n (record {
+        submissions = apart.submissions;
+        completions = apart.completions;
+        pages = λ i d low high. apart.pages i d (omega (arith, stay.since, low)) high;
+      }) ∙ stay.same from n apart;
     })
 
 -- ---- the host writes elsewhere
@@ -101,10 +93,6 @@ written t s w new k leaves =
       answers = k.answers;
     }
 
--- a write elsewhere keeps what holds for the schedule
-pub elsewhere_keeps : (t : Setting) (s : State) (w w' : World) → Keeps t s w → Happens t Elsewhere w w' → Keeps t s w'
-elsewhere_keeps t s w w' k happens = subst (Keeps t s) (sym happens.1) (written t s w w'.mem k happens.0)
-
 -- ---- every schedule
 
 -- each event keeps what holds for the schedule, and none but a write elsewhere changes other bytes
@@ -121,7 +109,7 @@ event_stays t s Collect w w' k happens =
 event_stays t s Tell w w' k happens =
     (tell_keeps t s w w' k happens, λ first old other stay. tell_others t first old w w' stay happens)
 event_stays t s Elsewhere w w' k happens =
-    (elsewhere_keeps t s w w' k happens, λ first old other stay. absurd (other refl))
+    (subst (Keeps t s) (sym happens.1) (written t s w w'.mem k happens.0), λ first old other stay. absurd (other refl))
 
 -- events, one after another, keep what holds, and none but writes elsewhere change other bytes
 runs_stay : (t : Setting) (s : State) (events : List Event) (w w' : World) → Keeps t s w → Runs t events w w'
@@ -137,21 +125,19 @@ runs_stay t s (e ∷ events) w w' k runs =
           (one.1 first old (other 0 e (omega arith)) stay),
     )
 
--- what holds for a schedule says that it is serial
-is_serial : (t : Setting) (s : State) (w : World) → Keeps t s w → IsSerial t s w
-is_serial t s w keeps = record {
-  answers = keeps.answers;
-  state = keeps.state;
-  collected = keeps.counts.collected;
-  done = omega (arith, keeps.counts.done, keeps.counts.rung);
-  held = keeps.held;
-  found = is_found t s w keeps;
-  turns = λ most next happens. turn_takes t s most w next keeps happens;
-  others = λ events next from n other runs apart.
-      ((runs_stay t s events w next keeps runs).1 (length w.answers) w.mem other (others_now t w)).same from n apart;
-}
-
 -- every schedule from an idle controller is serial
 pub every_schedule : EveryScheduleIsSerial
-every_schedule t events old new idle runs = is_serial t old.state new
-    (runs_stay t old.state events old new (idle_keeps t old idle) runs).0
+every_schedule t before old w idle ran =
+    let s = old.state in
+    let keeps = (runs_stay t s before old w (idle_keeps t old idle) ran).0 in
+    record {
+      answers = keeps.answers;
+      state = keeps.state;
+      collected = keeps.counts.collected;
+      done = omega (arith, keeps.counts.done, keeps.counts.rung);
+      held = keeps.held;
+      found = is_found t s w keeps;
+      turns = λ most next happens. turn_takes t s most w next keeps happens;
+      others = λ events next from n other runs apart. ((runs_stay t s events w next keeps runs).1 (length w.answers)
+          w.mem other (others_now t w)).same from n apart;
+    }

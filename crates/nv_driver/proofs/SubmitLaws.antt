@@ -1,12 +1,11 @@
 -- What doesn't change at a submission.
 use Rattle.nv_driver.proofs.Words.{[], ℕ, ◌*◌, ◌++◌, ◌+◌, ◌<◌, ◌∙◌, ◌∷◌, ◌≡◌, ◌≤◌, AreApart, AreOutside, ChangesOnly}
-use Rattle.nv_driver.proofs.Words.{Happens, HasRings, Holds, HoldsSent, IsOwn, IsPrepared, IsReadable, Keeps, List}
-use Rattle.nv_driver.proofs.Words.{MaySubmit, OthersStay, Sent, Setting, SqeFits, State, StaysNamed, Submit}
-use Rattle.nv_driver.proofs.Words.{SubmitNumbers, World, after, answers_to, ap, arith, bytes_at, cases_lt, data_length}
-use Rattle.nv_driver.proofs.Words.{entry, get_or, get_or_append_left, get_or_push, inl, inr, length, length-append}
-use Rattle.nv_driver.proofs.Words.{page_size_bounds, places, refl, rest_distinct, slot, submission_at, submit_ring}
-use Rattle.nv_driver.proofs.Words.{subst, sym, take-append-le, with_submission}
-use Rattle.nv_queue.proofs.SlotLaws.{length-with_submission, push_written}
+use Rattle.nv_driver.proofs.Words.{Happens, HasRings, Holds, HoldsSent, IsOwn, IsPrepared, Keeps, List, MaySubmit}
+use Rattle.nv_driver.proofs.Words.{OthersStay, Sent, Setting, SqeFits, State, StaysNamed, Submit, SubmitNumbers, World}
+use Rattle.nv_driver.proofs.Words.{after, answers_to, ap, arith, bytes_at, cases_lt, data_length, entry, get_or}
+use Rattle.nv_driver.proofs.Words.{get_or_append_left, get_or_push, inl, inr, length, length-append}
+use Rattle.nv_driver.proofs.Words.{length-with_submission, page_size_bounds, places, push_written, refl, rest_distinct}
+use Rattle.nv_driver.proofs.Words.{slot, submission_at, submit_ring, subst, sym, take-append-le, with_submission}
 use Rattle.nv_driver.proofs.CountLaws.{slot_inside, slots_differ}
 use Rattle.nv_driver.proofs.AnswerLaws.{holds_on}
 use Rattle.nv_driver.proofs.RegionLaws.{ChangesOnlyAt, Stays, buffer_data, completion_same, holds_sent_on, stays_apart}
@@ -14,10 +13,6 @@ use Rattle.nv_driver.proofs.RegionLaws.{stays_beside, submission_keeps, submissi
 use Rattle.nv_driver.proofs.PointerLaws.{stays_in}
 use Rattle.nv_driver.proofs.SubmittingLaws.{others_kept}
 use Rattle.nv_driver.proofs.BatchLaws.{answers-append, length-answers}
-
--- the memory after a submission
-abbrev pub mem_after : Setting → World → Sent → List ℕ → List ℕ
-mem_after t w x ready = with_submission ready (submit_ring t (length w.sent) (length w.answers)) (entry x)
 
 -- ---- the schedule goes on
 
@@ -35,29 +30,29 @@ each_more P low xs x each last n d from below =
     ]
 
 -- requests of which no two have a page in common, and one more that has none in common with them, have none in common
-apart_more : (t : Setting) (low : ℕ) (xs : List Sent) (x : Sent)
+apart_more : (low : ℕ) (xs : List Sent) (x : Sent)
     → ((n m : ℕ) (d : Sent) → low ≤ n → n < m → m < length xs → AreApart (get_or xs n d) (get_or xs m d))
     → ((n : ℕ) (d : Sent) → low ≤ n → n < length xs → AreApart (get_or xs n d) x)
     → (n m : ℕ) (d : Sent) → low ≤ n → n < m → m < length (xs ++ x ∷ [])
     → AreApart (get_or (xs ++ x ∷ []) n d) (get_or (xs ++ x ∷ []) m d)
-apart_more t low xs x each last n m d from later below =
+apart_more low xs x each last n m d from later below =
     let more : length (xs ++ x ∷ []) ≡ length xs + 1 = length-append xs (x ∷ []) in
     let early : n < length xs = omega arith in
-    let one = sym (get_or_append_left xs (x ∷ []) d n early) in
-    elim (cases_lt m (length xs)) [
-      | inl l ↦
-          subst (λ y. AreApart y (get_or (xs ++ x ∷ []) m d)) one
-          (subst (AreApart (get_or xs n d)) (sym (get_or_append_left xs (x ∷ []) d m l)) (each n m d from later l))
-      | inr g ↦
-          subst (λ y. AreApart y (get_or (xs ++ x ∷ []) m d)) one
-          (subst (AreApart (get_or xs n d)) (sym (get_or_push xs x d m (omega arith))) (last n d from early))
-    ]
+    subst (λ y. AreApart y (get_or (xs ++ x ∷ []) m d)) (sym (get_or_append_left xs (x ∷ []) d n early))
+    (elim (cases_lt m (length xs)) [
+      | inl l ↦ subst (AreApart (get_or xs n d)) (sym (get_or_append_left xs (x ∷ []) d m l)) (each n m d from later l)
+      | inr g ↦ subst (AreApart (get_or xs n d)) (sym (get_or_push xs x d m (omega arith))) (last n d from early)
+    ])
 
 module _ (t : Setting) (s : State) (x : Sent) (w : World) (ready : List ℕ) (k : Keeps t s w) (may : MaySubmit t w x)
     (prepared : IsPrepared t.page_size x w.mem ready) where
+  -- the host's submission ring before the submission
+  abbrev ring : SubmitNumbers
+  ring = submit_ring t (length w.sent) (length w.answers)
+
   -- the schedule after the submission
   abbrev next : World
-  next = record w { mem = mem_after t w x ready; sent = w.sent ++ x ∷ [] }
+  next = record w { mem = with_submission ready ring (entry x); sent = w.sent ++ x ∷ [] }
 
   -- a page has a byte
   some : 0 < t.page_size
@@ -70,10 +65,6 @@ module _ (t : Setting) (s : State) (x : Sent) (w : World) (ready : List ℕ) (k 
   -- the submission ring lies in the memory
   inside : t.sq + 64 * t.depth ≤ length ready
   inside = omega (arith, k.placed.submissions, prepared.len)
-
-  -- the host's submission ring before the submission
-  abbrev ring : SubmitNumbers
-  ring = submit_ring t (length w.sent) (length w.answers)
 
   -- writing the entry keeps the length of the memory
   same_size : length next.mem ≡ length ready
@@ -120,35 +111,6 @@ module _ (t : Setting) (s : State) (x : Sent) (w : World) (ready : List ℕ) (k 
       stays_apart t x (get_or w.sent n d) t.sq (64 * t.depth) w.mem next.mem some len only other.enough
       (may.apart n d from below) other.submissions
 
-  -- the entries that wait to be executed are in their slots, with the new one
-  waiting_more : (n : ℕ) (d : Sent) → w.done ≤ n → n < length next.sent
-      → submission_at next.mem t.sq (slot t n) ≡ entry (get_or next.sent n d)
-  waiting_more =
-      let c = k.counts in
-      let fits : SqeFits (entry x) = assumption (prepared.prp1, prepared.prp2, may.cid, may.can.fits) in
-      let written = push_written ready ring (entry x) some_slots inside fits in
-      each_more (λ n y. submission_at next.mem t.sq (slot t n) ≡ entry y) w.done w.sent x
-      (λ n d from below.
-      let low = slot_inside t n some_slots in
-      written.others (slot t n) low
-      (λ e. slots_differ t n (length w.sent) below (omega (arith, c.few, c.collected)) (sym e))
-      ∙ submission_same t w.mem ready (slot t n) (others t.sq (64 * t.depth) may.submissions) low
-      ∙ k.waiting n d from below)
-      written.here
-
-  -- the answers that were held are held after the submission too
-  held_still : (n : ℕ) (d : Sent) → length w.answers ≤ n → n < w.done → Holds t s next n (get_or next.sent n d)
-  held_still n d from below =
-      let c = k.counts in
-      let y = get_or w.sent n d in
-      let early : n < length w.sent = omega (arith, c.done, c.rung) in
-      subst (Holds t s next n) (sym (get_or_append_left w.sent (x ∷ []) d n early))
-      (holds_on t s w next n y (completion_same t w.mem next.mem (slot t n) completions_stay
-      (slot_inside t n some_slots))
-      (other_stays n d from early).read
-      (take-append-le n w.sent (x ∷ []) (omega arith))
-      (k.held n d from below))
-
   -- what holds for the schedule holds after the submission too
   submitted : Keeps t s next
   submitted =
@@ -164,25 +126,36 @@ module _ (t : Setting) (s : State) (x : Sent) (w : World) (ready : List ℕ) (k 
         controller = k.controller;
         limit = k.limit;
         own = rw len (each_more (λ _ y. IsOwn t (length w.mem) y) (length w.answers) w.sent x k.own own);
-        apart = λ n j d from later below. apart_more t (length w.answers) w.sent x k.apart may.apart n
-            j d from later below;
+        apart = apart_more (length w.answers) w.sent x k.apart may.apart;
         named = each_more (λ n y. StaysNamed t.page_size y next.mem) (length w.answers) w.sent x
             (λ n d from below. stays_in t.page_size (get_or w.sent n d) w.mem next.mem (other_stays n d from below).list
             (k.named n d from below))
             (stays_in t.page_size x ready next.mem own_stays.list prepared.stays);
-        waiting = waiting_more;
+        waiting =
+            let fits : SqeFits (entry x) = assumption (prepared.prp1, prepared.prp2, may.cid, may.can.fits) in
+            let written = push_written ready ring (entry x) some_slots inside fits in
+            each_more (λ n y. submission_at next.mem t.sq (slot t n) ≡ entry y) w.done w.sent x (λ n d from below.
+            let low = slot_inside t n some_slots in
+            written.others (slot t n) low
+            (λ e. slots_differ t n (length w.sent) below (omega (arith, c.few, c.collected)) (sym e))
+            ∙ submission_same t w.mem ready (slot t n) (others t.sq (64 * t.depth) may.submissions) low
+            ∙ k.waiting n d from below) written.here;
         to_send = each_more (λ n y. HoldsSent t.page_size y next.mem) w.done w.sent x
             (λ n d from below. holds_sent_on t (get_or w.sent n d) w.mem next.mem
             (other_stays n d (omega (arith, c.collected)) below).read (k.to_send n d from below))
             (holds_sent_on t x ready next.mem own_stays.read prepared.sent);
-        held = held_still;
+        held = λ n d from below.
+            let early : n < length w.sent = omega (arith, c.done, c.rung) in
+            subst (Holds t s next n) (sym (get_or_append_left w.sent (x ∷ []) d n early))
+            (holds_on t s w next n (get_or w.sent n d) (completion_same t w.mem next.mem (slot t n) completions_stay
+            (slot_inside t n some_slots)) (other_stays n d from early).read
+            (take-append-le n w.sent (x ∷ []) (omega arith)) (k.held n d from below));
         tags = λ slot below. ap (λ e. e.phase) (completion_same t w.mem next.mem slot completions_stay below)
             ∙ k.tags slot below;
         answers = λ n below d e can.
             let all = answers_to t.controller s w.sent in
             let early : n < length w.sent = omega (arith, c.collected, c.done, c.rung) in
-            k.answers n below d e (subst (λ (y : Sent). IsReadable y.request.asked)
-            (get_or_append_left w.sent (x ∷ []) d n early) can)
+            k.answers n below d e (rw (← get_or_append_left w.sent (x ∷ []) d n early) can)
             ∙ sym (ap (λ as_one. get_or as_one n e) (answers-append t.controller s w.sent (x ∷ []))
             ∙ get_or_append_left all _ e n (omega (arith, length-answers t.controller s w.sent)));
       }

@@ -1,20 +1,14 @@
 -- The pages of a command, as `build` requires them.
 use Rattle.nv_driver.proofs.Words.{ℕ, ◌%◌, ◌*◌, ◌+◌, ◌-◌, ◌/◌, ◌<◌, ◌^◌, ◌∙◌, ◌≡◌, ◌≤◌, AreDistinct, AreOutside}
-use Rattle.nv_driver.proofs.Words.{CollectNumbers, Geometry, IsBuffer, IsPrepared, IsSubmittedAt, KeepsList, List, Ok}
-use Rattle.nv_driver.proofs.Words.{Pages, QueuePairFields, Request, RequestPlace, Result, Sent, StaysNamed}
-use Rattle.nv_driver.proofs.Words.{SubmitNumbers, ap, arith, bytes_at, bytes_from_host, cases_lt, data_length, div_ceil}
-use Rattle.nv_driver.proofs.Words.{div_ceil_times, get_or, inl, inr, length, length-written_at, mod_below}
-use Rattle.nv_driver.proofs.Words.{mul-le-mul_right, own_pages, page_size_bounds, places, pointed, refl, rest_distinct}
-use Rattle.nv_driver.proofs.Words.{sent_from, subst, sym}
-use Rattle.std.proofs.Common.{OnOk}
-use Rattle.nv_host.specs.Pages.{IsPageSize}
-use Rattle.nv_prp.specs.Buffer.{IsListPlace, KeepsOutsideList}
-use Rattle.nv_prp.specs.Place.{written_at}
+use Rattle.nv_driver.proofs.Words.{ChangesList, CollectNumbers, Geometry, IsBuffer, IsListPlace, IsPageSize, IsPrepared}
+use Rattle.nv_driver.proofs.Words.{IsSubmittedAt, KeepsOutsideList, List, Ok, OnOk, Pages, QueuePairFields, Request}
+use Rattle.nv_driver.proofs.Words.{RequestPlace, Result, Sent, StaysNamed, SubmitNumbers, ap, arith, bytes_at}
+use Rattle.nv_driver.proofs.Words.{bytes_from_host, cases_lt, data_length, div_ceil, div_ceil_times, get_or, inl, inr}
+use Rattle.nv_driver.proofs.Words.{length, length-written_at, mod_below, mul-le-mul_right, own_pages, page_size_bounds}
+use Rattle.nv_driver.proofs.Words.{pages_at, places, pointed, refl, rest_distinct, sent_from, subst, sym, written_at}
 use Rattle.nv_prp.specs.Transfer.{data_pages, most_bytes, room}
 use Rattle.nv_prp.proofs.PageLaws.{at_most_257}
 use Rattle.nv_prp.proofs.WriteLaws.{lies_at, pages_kept}
-use Rattle.nv_driver.specs.Schedule.{ChangesList}
-use Rattle.nv_driver.specs.inner.Submitting.{pages_at}
 use Rattle.nv_driver.proofs.DataLaws.{ArePlaces, sent_back}
 use Rattle.nv_driver.proofs.RegionLaws.{buffer_data, data_keeps, written_list}
 use Rattle.nv_driver.proofs.PointerLaws.{stays_in}
@@ -52,8 +46,7 @@ changes_list page_size x old new some no_list at kept = (
   no_list,
   λ many.
       let data_too = some_of page_size x.prp1 (data_length x) some many in
-      subst (λ start. KeepsOutsideList ((page_size - start % page_size) / 8) start (x.second * page_size)
-      (data_pages (pointed page_size x new)) old new) (at data_too many) (kept data_too many),
+      rw (← at data_too many) (kept data_too many),
 )
 
 -- bytes outside the pages of a prepared command don't change
@@ -107,8 +100,7 @@ prepared_by page_size x old built new is sends buffer distinct few first second 
       prp2 = second;
       sent = ap (λ q. sent_from m q at) put ∙ sent_back m built at xs theirs sends;
       stays = stays_in page_size x built new
-          (subst (KeepsList (pointed page_size x built) x.first x.second) (sym put)
-          (written_list page_size x built xs some buffer.enough distinct)) stays;
+          (rw put (written_list page_size x built xs some buffer.enough distinct)) stays;
     }
 
 -- ---- what ends before all pages of a request is outside them
@@ -143,7 +135,4 @@ on_ok {P = P} r x is all = subst (λ q. OnOk q P) is all
 pub submitted_as : {size size' : ℕ} {at at' : RequestPlace} {q q' : Request} {old new : QueuePairFields}
     {before after : List ℕ} {now end : ℕ} → size ≡ size' → at ≡ at' → q ≡ q'
     → IsSubmittedAt size at q old new before after now end → IsSubmittedAt size' at' q' old new before after now end
-submitted_as {size' = size'} {at = at} {at'} {q = q} {old = old} {new} {before} {after} {now} {end} e f g is =
-    subst (λ x. IsSubmittedAt size' at' x old new before after now end) g
-    (subst (λ x. IsSubmittedAt size' x q old new before after now end) f
-    (subst (λ x. IsSubmittedAt x at q old new before after now end) e is))
+submitted_as e f g is = rw (← e, ← f, ← g) is

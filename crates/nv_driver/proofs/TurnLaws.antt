@@ -1,10 +1,8 @@
 -- What doesn't change in a turn.
-use Rattle.nv_driver.proofs.Words.{[], ℕ, ◌+◌, ◌<◌, ◌∙◌, ◌≡◌, ActiveList, AreOthers, Happens, Keeps, Scene, Sent}
-use Rattle.nv_driver.proofs.Words.{Setting, State, Takes, Turn, World, ap, arith, bank_with, bytes_at, device_rings}
-use Rattle.nv_driver.proofs.Words.{length, refl, request_of, scene, subst, suc, sym, zero}
-use Rattle.nv_bus.proofs.TurnLaws.{turn_count_is}
-use Rattle.nv_bus.specs.Turn.{BankTurn, RingsLie, Site, Taken, ready_bank, site, turn_count}
-use Rattle.nv_driver.specs.Schedule.{least}
+use Rattle.nv_driver.proofs.Words.{[], ℕ, ◌+◌, ◌<◌, ◌∙◌, ◌≡◌, ActiveList, AreOthers, BankTurn, Happens, Keeps, RingsLie}
+use Rattle.nv_driver.proofs.Words.{Scene, Sent, Setting, Site, State, Taken, Turn, World, ap, arith, bank_with}
+use Rattle.nv_driver.proofs.Words.{bytes_at, device_rings, least, length, ready_bank, refl, request_of, scene, site}
+use Rattle.nv_driver.proofs.Words.{subst, suc, sym, turn_count, turn_count_is, zero}
 use Rattle.nv_driver.proofs.CountLaws.{number_above, number_below}
 use Rattle.nv_driver.proofs.EntryLaws.{can_go, entry_keeps, entry_others, is_done, now, world_after}
 
@@ -42,41 +40,29 @@ pub record Reaches (t : Setting) (s : State) (w : World) (count : ℕ) (y : Scen
   pub others : (from n : ℕ) → AreOthers t (length w.answers) w.sent from n
       → bytes_at y.bytes from n ≡ bytes_at w.mem from n
 
--- before the first entry, the scene has the values of the schedule
-none_taken : (t : Setting) (s : State) (w : World) → Keeps t s w → Reaches t s w 0 (scene w.state (now t w) w.mem)
-none_taken t s w k =
-    let zero_more : w.done ≡ w.done + 0 = omega arith in
-    record {
-      keeps = subst (λ n. Keeps t s (world_done t w n (scene w.state (now t w) w.mem))) zero_more
-          (subst (λ p. Keeps t s (record w { bank = p })) k.bank k);
-      rings = ap (λ n. device_rings t w.rung n w.told) zero_more;
-      others = λ from n apart. refl;
-    }
-
--- one entry and then others are one entry more
-one_further : (t : Setting) (s : State) (w : World) (mid y : Scene) (count : ℕ) → Keeps t s w
-    → Takes t.page_size t.controller (scene w.state (now t w) w.mem) mid
-    → Reaches t s (world_after t w mid) count y → Reaches t s w (suc count) y
-one_further t s w mid y count k takes r =
-    let sum : w.done + 1 + count ≡ w.done + suc count = omega arith in
-    record {
-      keeps = subst (λ n. Keeps t s (world_done t w n y)) sum r.keeps;
-      rings = r.rings ∙ ap (λ n. device_rings t w.rung n w.told) sum;
-      others = λ from n apart. r.others from n apart ∙ entry_others t s w mid no_command k takes from n apart;
-    }
-
 -- entries, one after another, keep what holds for the schedule
 pub taken_keep : (t : Setting) (s : State) (count : ℕ) (w : World) (y : Scene) → Keeps t s w
     → Taken count t.page_size t.controller (scene w.state (now t w) w.mem) y → Reaches t s w count y
-taken_keep t s zero w y k taken = subst (Reaches t s w 0) (sym taken) (none_taken t s w k)
+taken_keep t s zero w y k taken =
+    let zero_more : w.done ≡ w.done + 0 = omega arith in
+    subst (Reaches t s w 0) (sym taken) (record {
+      keeps = rw (← zero_more, ← k.bank) k;
+      rings = ap (λ n. device_rings t w.rung n w.told) zero_more;
+      others = λ from n apart. refl;
+    })
 taken_keep t s (suc count) w y k taken =
     let mid = taken.0 in
     let c = k.counts in
     let go = can_go t s w k taken.1.can in
     let first = is_done t s w mid no_command k (omega (arith, go.0, c.rung)) taken.1.one in
-    one_further t s w mid y count k taken.1 (taken_keep t s count (world_after t w mid) y
-    (entry_keeps t s w mid no_command k taken.1)
-    (subst (λ r. Taken count t.page_size t.controller (scene mid.state r mid.bytes) y) first.rings taken.2))
+    let r = taken_keep t s count (world_after t w mid) y (entry_keeps t s w mid no_command k taken.1)
+    (subst (λ r. Taken count t.page_size t.controller (scene mid.state r mid.bytes) y) first.rings taken.2) in
+    let sum : w.done + 1 + count ≡ w.done + suc count = omega arith in
+    record {
+      keeps = subst (λ n. Keeps t s (world_done t w n y)) sum r.keeps;
+      rings = r.rings ∙ ap (λ n. device_rings t w.rung n w.told) sum;
+      others = λ from n apart. r.others from n apart ∙ entry_others t s w mid no_command k taken.1 from n apart;
+    }
 
 -- the rings of a schedule lie in the memory
 rings_lie : (t : Setting) (s : State) (w : World) → Keeps t s w → RingsLie (now t w) t.page_size (length w.mem)

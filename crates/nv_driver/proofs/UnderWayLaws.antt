@@ -1,26 +1,20 @@
 -- A list of commands while a controller executes it: what holds meanwhile, and submissions.
 use Rattle.nv_driver.proofs.Words.{[], ℕ, ◌%◌, ◌*◌, ◌++◌, ◌+◌, ◌-◌, ◌<◌, ◌∙◌, ◌∷◌, ◌≡◌, ◌≢◌, ◌≤◌, All, AreApart}
 use Rattle.nv_driver.proofs.Words.{AreInOrder, AreLowest, AreTaken, Batch, BusTurn, BusValue, CommandPages, Course}
-use Rattle.nv_driver.proofs.Words.{DoesNext, FromHost, Geometry, HasFreeSlot, HasRoom, IsDue, IsHeld, IsOf, IsOnWay}
+use Rattle.nv_driver.proofs.Words.{FromHost, Geometry, HasCollected, HasFreeSlot, HasRoom, IsDue, IsHeld, IsOf}
 use Rattle.nv_driver.proofs.Words.{IsRequest, IsRunOf, IsSubmittedAt, IsToldInTime, IsUnderWay, LiesInPages, List}
 use Rattle.nv_driver.proofs.Words.{NoData, NumberSet, Pages, QueuePairFields, Request, Requests, Run, Sent, Submit}
 use Rattle.nv_driver.proofs.Words.{TailWrite, ToHost, Transfer, World, Write, all_pages, ap, arith, both_ways, cid_at}
 use Rattle.nv_driver.proofs.Words.{data_count, drop, drop-append-le, free_pages, get_or, get_or-drop, get_or-set_other}
-use Rattle.nv_driver.proofs.Words.{get_or-set_same, greatest_limit, held_pages, length, length-append, length-drop}
-use Rattle.nv_driver.proofs.Words.{length-set, length-take, length_of, limit_of, min, mod_below, mul-le-mul_right}
-use Rattle.nv_driver.proofs.Words.{numbered, numbered_of, own_pages, pages_for, pages_of_all, place_in, refl, sent_at}
-use Rattle.nv_driver.proofs.Words.{set, setting_of, slot, slots_apart, subst, sym, take, take_more, true, way, without}
-use Rattle.nv_driver.proofs.Words.{world_of}
-use Rattle.std.proofs.lemmas.List.{map_push}
-use Rattle.nv_queue.specs.Numbers.{next, slot_of}
-use Rattle.nv_driver.specs.UnderWay.{HasCollected, sent_in_window}
+use Rattle.nv_driver.proofs.Words.{get_or-set_same, greatest_limit, held_pages, len-all_of, length, length-append}
+use Rattle.nv_driver.proofs.Words.{length-drop, length-set, length_of, limit_of, map_push, min, mod_below}
+use Rattle.nv_driver.proofs.Words.{mul-le-mul_right, next, numbered, numbered_of, own_pages, pages_for, pages_of_all}
+use Rattle.nv_driver.proofs.Words.{place_in, refl, requests_in, sent_at, sent_in_window, set, setting_of, slot, slot_of}
+use Rattle.nv_driver.proofs.Words.{slots_apart, subst, sym, take, take_more, way, without, world_of}
 use Rattle.nv_driver.proofs.BatchLaws.{length-from_cid, request_at}
-use Rattle.nv_driver.proofs.CommandPageLaws.{first_two, own_is, place_of_set}
-use Rattle.nv_driver.proofs.ShareLaws.{data_fits}
-use Rattle.nv_driver.proofs.PageSetLaws.{in_of, is_in}
-use Rattle.nv_driver.proofs.WindowPageLaws.{few_pages, fresh, page_of_one, pages-append, taken_also, taken_len}
-use Rattle.nv_driver.proofs.WindowPageLaws.{without_also}
-use Rattle.nv_bits.proofs.NumberLaws.{len-all_of}
+use Rattle.nv_driver.proofs.PointerLaws.{all_count, data_fits, first_two, own_is, place_of_set}
+use Rattle.nv_driver.proofs.PageSetLaws.{in_of, is_in, left_in}
+use Rattle.nv_driver.proofs.WindowPageLaws.{few_pages, page_of_one, pages-append, taken_also, taken_len, without_also}
 use Rattle.nv_driver.proofs.SubmitLaws.{each_more}
 use Rattle.std.specs.FinMap as map_of
 use Rattle.nv_driver.proofs.OnWayLaws as W
@@ -30,6 +24,11 @@ use Rattle.nv_driver.proofs.OnWayLaws as W
 -- the request that was sent is request n of the run
 pub request_is : {r : Run} {n : ℕ} {x : Sent} (k : LiesInPages r n x) → x.request ≡ get_or r.requests n x.request
 request_is k = ap (λ (y : Sent). y.request) k.sent
+
+-- a list of the run's requests has as many as the run
+pub counted : {r : Run} {what : Requests} {n : ℕ} → IsRunOf r what
+    → n ≡ length (requests_in (limit_of r.bus.state r.controller) what) → n ≡ length r.requests
+counted of is = is ∙ ap (λ (qs : List Request). length qs) of.requests
 
 -- data that a data pointer can have isn't longer than any limit
 pub room_few : (m : Transfer) → HasRoom m → length_of m ≤ greatest_limit
@@ -46,10 +45,6 @@ module _ {B : Type 0} {wrote : Write B} {rang : TailWrite B} {turned : BusTurn B
   -- the schedule of the list
   abbrev pub world : World
   world = world_of (way r u.course bells turns b.told) bus bytes
-
-  -- its geometry is that of the run
-  pub geometry_is : l.geometry ≡ r.geometry
-  geometry_is = W.geometry_is u.on_way
 
   -- what is due is said of the numbers of the batch
   pub has_collected : turns ≡ b.collected → IsToldInTime r b → HasCollected r world
@@ -82,14 +77,9 @@ module _ {B : Type 0} {wrote : Write B} {rang : TailWrite B} {turned : BusTurn B
       → n < b.sent → length (own_pages x) ≤ pages_for most r.geometry.page_size
   few_of {n} {x} most brief k below =
       let few : length_of x.request.transfer ≤ most =
-      subst (λ (q : Request). length_of q.transfer ≤ most) (sym (request_is k))
-      (brief n x.request (omega (arith, below, u.some))) in
-      omega (
-        arith,
-        ap (λ (ps : List ℕ). length ps) (own_is k),
-        k.many,
-        (data_fits r.geometry (length_of x.request.transfer) most u.begun.geometry few).1,
-      )
+      rw (request_is k) (brief n x.request (omega (arith, below, u.some))) in
+      let own = ap (λ (ps : List ℕ). length ps) (own_is k) in
+      omega (arith, own, k.many, (data_fits r.geometry (length_of x.request.transfer) most u.begun.geometry few).1)
 
   -- there are enough pages for one more request
   pub set_has : {what : Requests} (of : IsRunOf r what) → b.sent < b.collected + r.geometry.window
@@ -124,11 +114,6 @@ module _ {B : Type 0} {wrote : Write B} {rang : TailWrite B} {turned : BusTurn B
 
 -- ---- a submission
 
--- the pages of the outstanding commands and of one more
-held_more : (xs : List Sent) (x : Sent) (n : ℕ) → n ≤ length xs
-    → held_pages n (xs ++ x ∷ []) ≡ held_pages n xs ++ own_pages x
-held_more xs x n low = ap pages_of_all (drop-append-le n xs (x ∷ []) low) ∙ pages-append (drop n xs) x
-
 -- commands that are fewer than sixteen apart have different slots in the window
 two_places : (n m : ℕ) → n < m → m < n + 16 → n % 16 ≢ m % 16
 unfolding slot_of
@@ -156,11 +141,8 @@ module _ {B : Type 0} {wrote : Write B} {rang : TailWrite B} {turned : BusTurn B
   new_one = sent_at (place_in r.geometry (all_pages o)) q l.next_cid sub.one.prp1 sub.one.prp2
 
   -- it has the pages that were taken
-  all_long : length (all_pages o) ≡ o.count
-  all_long = let h = length-take o.count o.numbers in omega (arith, h, sub.long)
-
   own_new : own_pages new_one ≡ all_pages o
-  own_new = first_two (all_pages o) (omega (arith, all_long, sub.many))
+  own_new = first_two (all_pages o) (omega (arith, all_count o sub.long, sub.many))
 
   -- they were free
   taken_new : AreTaken (free_pages r b.collected u.course.sent) (own_pages new_one)
@@ -172,13 +154,9 @@ module _ {B : Type 0} {wrote : Write B} {rang : TailWrite B} {turned : BusTurn B
   kept_new = record {
     pages = all_pages o;
     sent = cc (is, cid_is u);
-    many = all_long ∙ sub.many;
+    many = all_count o sub.long ∙ sub.many;
     points = record { list = λ m. sub.one.list; one = λ m. sub.one.one; none = sub.one.pointer };
   }
-
-  -- its pages are of the queue pair's set
-  own_of_set : All (λ p. IsOf r.pair.pages.first r.pair.pages.count p) (own_pages new_one)
-  own_of_set = taken_new.own
 
   -- the requests and the answers with this request and its submission
   abbrev course_more : Course
@@ -192,84 +170,60 @@ module _ {B : Type 0} {wrote : Write B} {rang : TailWrite B} {turned : BusTurn B
       let xs = u.course.sent in
       let p = get_or (own_pages (get_or xs n d)) i e in
       let at : b.collected + (n - b.collected) ≡ n = omega (arith, from, u.collected) in
-      let one = subst (λ (y : Sent). is_in (own_pages y) p ≡ true)
-      (ap (λ m. get_or xs m d) (sym at) ∙ sym (get_or-drop b.collected xs (n - b.collected) d))
+      let one = rw (ap (λ m. get_or xs m d) (sym at) ∙ sym (get_or-drop b.collected xs (n - b.collected) d)) at
       (in_of (own_pages (get_or xs n d)) i e p h refl) in
       let there = page_of_one (drop b.collected xs) (n - b.collected) d p
       (omega (arith, length-drop b.collected xs, from, below, u.collected)) one in
       both_ways (is_in (held u) p) (ap (is_in (held u)) same
-      ∙ fresh r.pair.pages (held u) (own_pages new_one) taken_new j f low) there
+      ∙ (left_in r.pair.pages (held u) _ (taken_new.had j f low)).1) there
 
-  -- the requests with this one are on their way
-  on_way_more : IsDue r u.course.events (world u) (Submit new_one)
-      → IsOnWay (DoesNext wrote rang turned r) start (way r course_more bells turns b.told) bus on l' now' mem
-  on_way_more its_time =
-      W.submits_on u.on_way sub.one
-      (subst (λ p. IsRequest (limit_of r.bus.state r.controller) p) (sym is) (u.can b.sent q below))
-      (place_of_set r.geometry l.pages (all_pages o) bytes now (length_of q.transfer) u.begun.geometry u.page_size
-      (still_inside u) sub.taken.own sub.taken.distinct (all_long ∙ sub.many))
-      (λ i d h. (own_of_set i d h).0)
-      (omega arith)
-      (omega (arith, more, u.sent, u.collected, u.begun.geometry.window.2, u.begun.depth)) apart_new
-      (its_time, refl)
-
-  -- the pages of the outstanding commands, and those that are free then
+  -- the pages of the outstanding commands then
   all_held : held_pages b.collected (u.course.sent ++ new_one ∷ []) ≡ held u ++ own_pages new_one
-  all_held = let c = counts u in held_more u.course.sent new_one b.collected
-      (omega (arith, c.collected, c.done, c.rung, u.sent))
-
-  pages_new : l'.pages ≡ free_pages r b.collected (u.course.sent ++ new_one ∷ [])
-  pages_new =
-      ap (λ (p : QueuePairFields). p.pages) sub.one.pair ∙ ap (λ s. without s (all_pages o)) u.left
-      ∙ without_also r.pair.pages (held u) (all_pages o)
-      ∙ ap (λ ps. without r.pair.pages (held u ++ ps)) (sym own_new)
-      ∙ ap (without r.pair.pages) (sym all_held)
+  all_held =
+      let c = counts u in
+      let xs = u.course.sent in
+      ap pages_of_all (drop-append-le b.collected xs (new_one ∷ [])
+      (omega (arith, c.collected, c.done, c.rung, u.sent)))
+      ∙ pages-append (drop b.collected xs) new_one
 
   -- the window keeps the slots of the others, and has one more
-  slots_more : (n : ℕ) (p : CommandPages) (d : Sent) → b.sent + 1 ≤ n + 16 → n < b.sent + 1
-      → IsHeld (get_or (set places (b.sent % 16) o) (n % 16) p) (get_or (u.course.sent ++ new_one ∷ []) n d)
-  slots_more n p d from below =
-      let qs = set places (b.sent % 16) o in
+  slots_more : {k : ℕ} → b.sent ≡ k → (n : ℕ) (p : CommandPages) (d : Sent) → b.sent + 1 ≤ n + 16 → n < b.sent + 1
+      → IsHeld (get_or (set places (k % 16) o) (n % 16) p) (get_or (u.course.sent ++ new_one ∷ []) n d)
+  slots_more {k} reached n p d from below =
+      let qs = set places (k % 16) o in
       each_more (λ i y. IsHeld (get_or qs (i % 16) p) y) n u.course.sent new_one
-      (λ i e above low. subst (λ p. IsHeld p (get_or u.course.sent i e))
-      (sym (get_or-set_other places (b.sent % 16) (i % 16) o p
-      (two_places i b.sent (omega (arith, u.sent)) (omega (arith, above, from)))))
+      (λ i e above low. rw (get_or-set_other places (k % 16) (i % 16) o p
+      (two_places i k (omega (arith, u.sent)) (omega (arith, above, from))))
       (u.slots i p e (omega (arith, above, from)) (omega (arith, u.sent))))
-      (subst (λ p. IsHeld p new_one)
-      (sym (ap (λ i. get_or qs (i % 16) p) u.sent
-      ∙ get_or-set_same places (b.sent % 16) o p (omega (arith, u.room, mod_below b.sent 16 (omega arith)))))
-      (record { few = sub.long; pages = sym own_new }))
+      (rw (ap (λ i. get_or qs (i % 16) p) (u.sent ∙ reached) ∙ get_or-set_same places (k % 16) o p
+      (omega (arith, u.room, mod_below k 16 (omega arith)))) (record { few = sub.long; pages = sym own_new }))
       n d (omega arith) (omega (arith, below, u.sent, length-append u.course.sent (new_one ∷ [])))
 
-  -- it is the next of the run's requests
-  next_numbered : numbered new_one ≡ get_or (numbered_of r) b.sent (numbered new_one)
-  next_numbered = ap numbered kept_new.sent
-      ∙ sym (request_at r.pair.next_cid b.sent r.requests (numbered new_one) q u.begun.laid.next_cid below)
-
-  -- and its turn has come
-  is_due : turns ≡ b.collected → IsToldInTime r b → IsDue r u.course.events (world u) (Submit new_one)
-  is_due all near = (
-    has_collected u all near,
-    omega (arith, u.sent, u.collected, more, below),
-    record {
-      kept = subst (λ n. LiesInPages r n new_one) (sym u.sent) kept_new;
-      taken = subst (λ c. AreTaken (free_pages r c u.course.sent) (own_pages new_one)) (sym u.collected) taken_new;
-      lowest = subst (λ c. AreLowest (free_pages r c u.course.sent) (own_pages new_one)) (sym u.collected)
-          (subst (AreLowest (free_pages r b.collected u.course.sent)) (sym own_new)
-          (subst (λ s. AreLowest s (all_pages o)) u.left sub.lowest));
-    },
-  )
-
-  -- the list goes on with this request sent
-  pub submits : turns ≡ b.collected → IsToldInTime r b
+  -- the list goes on with this request sent, by the number that a loop has reached
+  pub submits : {k : ℕ} → b.sent ≡ k → turns ≡ b.collected → IsToldInTime r b
       → IsUnderWay wrote rang turned start r bells turns (record b { sent = b.sent + 1 }) bus on l' now' mem
-      (set places (b.sent % 16) o)
-  submits all near =
+      (set places (k % 16) o)
+  submits {k} reached all near =
       let xs = u.course.sent in
       let more_sent = length-append xs (new_one ∷ []) in
+      let due : IsDue r u.course.events (world u) (Submit new_one) = (
+        has_collected u all near,
+        omega (arith, u.sent, u.collected, more, below),
+        record {
+          kept = subst (λ n. LiesInPages r n new_one) (sym u.sent) kept_new;
+          taken = subst (λ c. AreTaken (free_pages r c u.course.sent) (own_pages new_one)) (sym u.collected) taken_new;
+          lowest = rw (u.collected, own_new, ← u.left) sub.lowest;
+        },
+      ) in
       record {
         course = course_more;
-        on_way = on_way_more (is_due all near);
+        on_way = W.submits_on u.on_way sub.one
+            (subst (λ p. IsRequest (limit_of r.bus.state r.controller) p) (sym is) (u.can b.sent q below))
+            (place_of_set r.geometry l.pages (all_pages o) bytes now (length_of q.transfer) u.begun.geometry
+            u.page_size (still_inside u) sub.taken.own sub.taken.distinct (all_count o sub.long ∙ sub.many))
+            (λ i d h. (taken_new.own i d h).0)
+            (omega arith)
+            (omega (arith, more, u.sent, u.collected, u.begun.geometry.window.2, u.begun.depth)) apart_new (due, refl);
         awake = λ h. h;
         can = u.can;
         controller = u.controller;
@@ -278,7 +232,8 @@ module _ {B : Type 0} {wrote : Write B} {rang : TailWrite B} {turned : BusTurn B
           some = omega (arith, below);
           sent = more_sent ∙ ap (λ n. n + 1) u.sent;
           requests = map_push numbered xs new_one ∙ ap (λ ys. ys ++ numbered new_one ∷ []) u.requests
-              ∙ ap (λ y. take b.sent (numbered_of r) ++ y ∷ []) next_numbered
+              ∙ ap (λ y. take b.sent (numbered_of r) ++ y ∷ []) (ap numbered kept_new.sent
+              ∙ sym (request_at r.pair.next_cid b.sent r.requests (numbered new_one) q u.begun.laid.next_cid below))
               ∙ sym (take_more (numbered_of r) b.sent (numbered new_one)
               (omega (arith, below, length-from_cid r.pair.next_cid r.requests)));
           kept = λ n d h. each_more (λ i y. LiesInPages r i y) 0 xs new_one
@@ -286,28 +241,15 @@ module _ {B : Type 0} {wrote : Write B} {rang : TailWrite B} {turned : BusTurn B
               (subst (λ i. LiesInPages r i new_one) (sym u.sent) kept_new) n d (omega arith)
               (omega (arith, h, u.sent, more_sent));
           own = λ n d h. each_more (λ i y. All (λ p. IsOf r.pair.pages.first r.pair.pages.count p) (own_pages y)) 0 xs
-              new_one (λ i e from low. u.own i e (omega (arith, u.sent))) own_of_set n d (omega arith)
+              new_one (λ i e from low. u.own i e (omega (arith, u.sent))) taken_new.own n d (omega arith)
               (omega (arith, h, u.sent, more_sent));
-          taken = subst (AreTaken r.pair.pages) (sym all_held)
-              (taken_also r.pair.pages (held u) (own_pages new_one) u.taken taken_new);
+          taken = rw all_held (taken_also r.pair.pages (held u) (own_pages new_one) u.taken taken_new);
         };
         collected = u.collected;
-        left = pages_new;
-        room = length-set places (b.sent % 16) o ∙ u.room;
-        slots = slots_more;
+        left = ap (λ (p : QueuePairFields). p.pages) sub.one.pair ∙ ap (λ s. without s (all_pages o)) u.left
+            ∙ without_also r.pair.pages (held u) (all_pages o)
+            ∙ ap (λ ps. without r.pair.pages (held u ++ ps)) (sym own_new)
+            ∙ ap (without r.pair.pages) (sym all_held);
+        room = length-set places (k % 16) o ∙ u.room;
+        slots = slots_more reached;
       }
-
--- the next submission, by the number that a loop has reached
-pub submits_at : {B : Type 0} {wrote : Write B} {rang : TailWrite B} {turned : BusTurn B} {start on : B} {r : Run}
-    {bells turns : ℕ} {b : Batch} {bus : BusValue} {l l' : QueuePairFields} {now now' n tail : ℕ} {bytes mem : List ℕ}
-    {places : List CommandPages} {o : CommandPages} {q : Request}
-    (u : IsUnderWay wrote rang turned start r bells turns b bus on l now bytes places) → b.sent ≡ n
-    → b.sent < b.collected + r.geometry.window → turns ≡ b.collected → IsToldInTime r b → n < length r.requests
-    → q ≡ get_or r.requests n q → IsSentIn r.geometry q o l l' bytes mem now' tail
-    → IsUnderWay wrote rang turned start r bells turns (record b { sent = b.sent + 1 }) bus on l' now' mem
-    (set places (n % 16) o)
-submits_at {wrote = wrote} {rang} {turned} {start} {on} {r} {bells} {turns} {b} {bus} {l' = l'} {now' = now'}
-    {mem = mem} {places} {o} {q} u at more all near below is sub =
-    subst (λ i. IsUnderWay wrote rang turned start r bells turns (record b { sent = b.sent + 1 }) bus on l' now' mem
-    (set places (i % 16) o)) at
-    (submits u more (omega (arith, at, below)) (is ∙ ap (λ i. get_or r.requests i q) (sym at)) sub all near)

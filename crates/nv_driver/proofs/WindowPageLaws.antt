@@ -1,15 +1,11 @@
 -- The pages of several outstanding commands.
-use Rattle.nv_driver.proofs.Words.{[], ℕ, ◌&&◌, ◌*◌, ◌++◌, ◌+◌, ◌<◌, ◌||◌, ◌∙◌, ◌∷◌, ◌≡◌, ◌≢◌, ◌≤◌, All, AllPairs}
-use Rattle.nv_driver.proofs.Words.{AreTaken, Bool, IsOf, List, Pages, Sent, add-one, ap, append-nil, arith, both_ways}
-use Rattle.nv_driver.proofs.Words.{false, fold, get_or, get_or_append_left, get_or_default, length, length-append}
-use Rattle.nv_driver.proofs.Words.{list_any-append, nat_eq, nat_tests, not, own_pages, pages_of_all, refl, subst, suc}
-use Rattle.nv_driver.proofs.Words.{sym, take, take-length, take_more, true, with_pages, without, zero}
-use Rattle.std.proofs.Common.{append_assoc}
-use Rattle.std.proofs.lemmas.Bool.{or_parts}
+use Rattle.nv_driver.proofs.Words.{[], ℕ, ◌&&◌, ◌*◌, ◌++◌, ◌+◌, ◌<◌, ◌||◌, ◌∙◌, ◌∷◌, ◌≡◌, ◌≢◌, ◌≤◌, All, All-append}
+use Rattle.nv_driver.proofs.Words.{AllPairs, AreTaken, Bool, IsOf, List, Pages, Sent, add-one, ap, append-nil}
+use Rattle.nv_driver.proofs.Words.{append_assoc, arith, both_ways, false, fold, fold-append, get_or, get_or-append-add}
+use Rattle.nv_driver.proofs.Words.{get_or_append_left, get_or_default, length, length-append, list_any-append, nat_eq}
+use Rattle.nv_driver.proofs.Words.{nat_tests, not, or_parts, own_pages, pages_of_all, refl, subst, suc, sym, take}
+use Rattle.nv_driver.proofs.Words.{take-length, take_more, true, with_pages, without, zero}
 use Rattle.std.proofs.lemmas.List.Kept.{AllPairs-cons}
-use Rattle.std.proofs.lemmas.List.{get_or-append-add}
-use Rattle.std.proofs.lemmas.List.Elements.{All-append}
-use Rattle.std.proofs.lemmas.Grind.{fold-append}
 use Rattle.nv_driver.proofs.PageSetLaws.{Taking, in_all, is_in, left_in, not_before, not_in, same_pages, taking_more}
 use Rattle.nv_driver.proofs.PageSetLaws.{taking_none, with_in, without_in, without_none}
 use Rattle.std.specs.FinMap as map_of
@@ -27,16 +23,6 @@ all_left P ps qs each i d h =
 all_right : (P : ℕ → Type 0) (ps qs : List ℕ) → All P (ps ++ qs) → All P qs
 all_right P ps qs each i d h =
     subst P (get_or-append-add ps qs i d) (each (length ps + i) d (omega (arith, length-append ps qs)))
-
-pairs_left : (ps qs : List ℕ) → AllPairs (λ p q. p ≢ q) (ps ++ qs) → AllPairs (λ p q. p ≢ q) ps
-pairs_left ps qs each i j d before h = λ same.
-    each i j d before (omega (arith, length-append ps qs))
-    (get_or_append_left ps qs d i (omega arith) ∙ same ∙ sym (get_or_append_left ps qs d j h))
-
-pairs_right : (ps qs : List ℕ) → AllPairs (λ p q. p ≢ q) (ps ++ qs) → AllPairs (λ p q. p ≢ q) qs
-pairs_right ps qs each i j d before h = λ same.
-    each (length ps + i) (length ps + j) d (omega arith) (omega (arith, length-append ps qs))
-    (get_or-append-add ps qs i d ∙ same ∙ sym (get_or-append-add ps qs j d))
 
 -- a page of the first part is not in the second
 apart_in : (ps qs : List ℕ) → AllPairs (λ p q. p ≢ q) (ps ++ qs) → (q : ℕ) → is_in ps q ≡ true → is_in qs q ≡ false
@@ -90,23 +76,20 @@ taken_also s ps qs first second = record {
 pub without_also : (s : Pages) (ps qs : List ℕ) → without (without s ps) qs ≡ without s (ps ++ qs)
 without_also s ps qs = ap (λ m. record s { members = m }) (sym (fold-append map_of.remove s.members ps qs))
 
--- a page that is taken was not taken before
-pub fresh : (s : Pages) (ps qs : List ℕ) → AreTaken (without s ps) qs → (i d : ℕ) → i < length qs
-    → is_in ps (get_or qs i d) ≡ false
-fresh s ps qs second i d h = (left_in s ps (get_or qs i d) (second.had i d h)).1
-
 pub taken_first : (s : Pages) (qs ps : List ℕ) → AreTaken s (qs ++ ps) → AreTaken s qs
 taken_first s qs ps t = record {
   own = all_left (λ p. IsOf s.first s.count p) qs ps t.own;
   had = all_left (λ p. map_of.contains_key s.members p ≡ true) qs ps t.had;
-  distinct = pairs_left qs ps t.distinct;
+  distinct = λ i j d before h same. t.distinct i j d before (omega (arith, length-append qs ps))
+      (get_or_append_left qs ps d i (omega arith) ∙ same ∙ sym (get_or_append_left qs ps d j h));
 }
 
 pub taken_rest : (s : Pages) (qs ps : List ℕ) → AreTaken s (qs ++ ps) → AreTaken s ps
 taken_rest s qs ps t = record {
   own = all_right (λ p. IsOf s.first s.count p) qs ps t.own;
   had = all_right (λ p. map_of.contains_key s.members p ≡ true) qs ps t.had;
-  distinct = pairs_right qs ps t.distinct;
+  distinct = λ i j d before h same. t.distinct (length qs + i) (length qs + j) d (omega arith)
+      (omega (arith, length-append qs ps)) (get_or-append-add qs ps i d ∙ same ∙ sym (get_or-append-add qs ps j d));
 }
 
 pub gone : (s : Pages) (qs ps : List ℕ) (i d : ℕ) → i < length qs

@@ -1,9 +1,8 @@
-use Rattle.nv_driver.proofs.Words.{◌<◌, ◌∙◌, ◌≤◌, AreReceived, Batch, IsLeft, KeepsOutside, List, Request, Run}
-use Rattle.nv_driver.proofs.Words.{after_some, ap, arith, length, limit_of, numbered_of, pair_value, refl, rules, side}
-use Rattle.nv_driver.proofs.Words.{state_after_all, subst, sym}
-use Rattle.nv_driver.proofs.EndLaws.{HasEnded, all_collected, begins_all, comes_further, ends_all, run_is}
+use Rattle.nv_driver.proofs.Words.{◌<◌, ◌∙◌, ◌≤◌, Batch, IsLeft, Run, after_some, ap, arith, length, limit_of}
+use Rattle.nv_driver.proofs.Words.{numbered_of, pair_value, rules, side, state_after_all, subst, sym}
+use Rattle.nv_driver.proofs.EndLaws.{all_collected, begins_all, comes_further, ends_all, run_is}
 use Rattle.nv_driver.proofs.RoundLaws.{received_on}
-use Rattle.nv_driver.proofs.batch.exchange_all.Given.{Over}
+use Rattle.nv_driver.proofs.UnderWayLaws.{counted}
 use Rattle.nv_driver.proofs.batch.exchange_all.Goals as goal
 
 pub loop-batch-init : goal.loop-batch-init
@@ -23,37 +22,12 @@ turn-requires g c κs within =
     let sent = ap (λ (b : Batch). b.sent) s.batch in
     let told = ap (λ (b : Batch). b.told) s.batch in
     let of = c.requires.1.1.1.1.0 in
-    let more : c.loop-batch.batch.collected < length g.begun.run.requests = omega (
-      arith,
-      c.loop-batch-test.true,
-      c.len.ensures (limit_of g.begun.run.bus.state g.begun.run.controller),
-      ap (λ (qs : List Request). length qs) of.requests,
-    ) in (
-      search rules,
-      (
-        search rules,
-        (
-          of,
-          (
-            s.under_way,
-            (
-              subst (λ n. AreReceived c.args.requests g.begun.run n c.loop-batch.answers c.send.new.host.taken
-                  (g.M.PagedMemory.bytes c.send.new.host.mem) c.send.new.host.last) (sym collected)
-                  (received_on c.args.requests c.loop-batch.answers c.loop-batch.host.taken c.send.new.host.taken
-                  (g.M.PagedMemory.bytes c.loop-batch.host.mem) (g.M.PagedMemory.bytes c.send.new.host.mem)
-                  c.loop-batch.host.last c.send.new.host.last of more i.received),
-              (
-                omega (arith, more, collected),
-                (
-                  omega (arith, sent, collected),
-                  omega (arith, i.near, told, collected),
-                ),
-              ),
-            ),
-          ),
-        ),
-      ),
-    )
+    let more : c.loop-batch.batch.collected < length g.begun.run.requests =
+    omega (arith, c.loop-batch-test.true, counted of (c.len.ensures _)) in
+    let got = received_on c.args.requests c.loop-batch.answers c.loop-batch.host.taken c.send.new.host.taken
+    (g.M.PagedMemory.bytes c.loop-batch.host.mem) (g.M.PagedMemory.bytes c.send.new.host.mem) c.loop-batch.host.last
+    c.send.new.host.last of more i.received in
+    (search rules, (search rules, (of, (s.under_way, (rw collected got, (omega arith, (omega arith, omega arith)))))))
 
 pub loop-batch-smaller : goal.loop-batch-smaller
 loop-batch-smaller g c =
@@ -61,57 +35,27 @@ loop-batch-smaller g c =
     let e = c.turn.ensures in
     let collected = ap (λ (b : Batch). b.collected) s.batch in
     let told = ap (λ (b : Batch). b.told) s.batch in
-    let more : c.loop-batch.batch.collected < length g.begun.run.requests = omega (
-      arith,
-      c.loop-batch-test.true,
-      c.len.ensures (limit_of g.begun.run.bus.state g.begun.run.controller),
-      ap (λ (qs : List Request). length qs) c.requires.1.1.1.1.0.requests,
-    ) in
+    let more : c.loop-batch.batch.collected < length g.begun.run.requests =
+    omega (arith, c.loop-batch-test.true, counted c.requires.1.1.1.1.0 (c.len.ensures _)) in
     comes_further _ c.loop-batch.batch c.turn.new.self more
     (omega (arith, e.count, collected)) (λ same. let none = e.none (same ∙ sym collected) in
     (omega (arith, none.0, told, collected), none.1 ∙ collected))
 
--- as many answers were collected as there are requests
-enough : (g : Over) (c : goal.After-tell g) → length g.begun.run.requests ≤ c.loop-batch.batch.collected
-enough g c = omega (
-  arith,
-  c.loop-batch-test.false,
-  c.len.ensures (limit_of g.begun.run.bus.state g.begun.run.controller),
-  ap (λ (qs : List Request). length qs) c.requires.1.1.1.1.0.requests,
-)
-
--- the run has ended
-ended : (g : Over) (c : goal.After-tell g) → HasEnded g.B.Bus.was_written g.B.Ringing.was_rung g.B.Bus.was_turned
-    g.begun.start g.begun.run (g.M.PagedMemory.page_len c.args.host.now.mem) (g.B.Bus.meaning c.tell.new.bus)
-    c.tell.new.bus c.tell.new.self (g.M.PagedMemory.page_len c.loop-batch.host.mem)
-    (g.M.PagedMemory.bytes c.loop-batch.host.mem) c.loop-batch.host.taken
-ended g c = ends_all g.B.Bus.meaning refl c.loop-batch.invariant.under_way (enough g c) c.tell.ensures.told
-    c.tell.ensures.written c.tell.ensures.silent (c.requires.1.1.1.0.page_size
-    ∙ ap (λ (r : Run). r.geometry.page_size) (sym (run_is c.requires.1.1.0)))
-
-pub returns-clause-received : goal.returns-clause-received
-returns-clause-received g c =
+pub returns : goal.returns
+returns g c =
     let i = c.loop-batch.invariant in
-    subst (λ n. AreReceived c.args.requests g.begun.run n c.loop-batch.answers c.loop-batch.host.taken
-    (g.M.PagedMemory.bytes c.loop-batch.host.mem) c.loop-batch.host.last)
-    (all_collected refl i.under_way (enough g c)).1 i.received
-
-pub returns-clause-state : goal.returns-clause-state
-returns-clause-state g c = (ended g c).state ∙ ap (λ (r : Run). state_after_all r.controller r.bus.state
-    (numbered_of g.begun.run)) (run_is c.requires.1.1.0)
-
-pub returns-clause-paced : goal.returns-clause-paced
-returns-clause-paced g c = (ended g c).paced
-
-pub returns-clause-others : goal.returns-clause-others
-returns-clause-others g c =
-    subst (λ (r : Run). KeepsOutside r.geometry.page_size (pair_value r.pair) r.bytes
-    (g.M.PagedMemory.bytes c.loop-batch.host.mem)) (run_is c.requires.1.1.0) (ended g c).others
-
-pub returns-clause-left : goal.returns-clause-left
-returns-clause-left g c =
-    let size = g.M.PagedMemory.page_len c.args.host.now.mem in
-    subst (λ (r : Run). IsLeft r.geometry r.controller (length r.bytes) (after_some (length g.begun.run.requests)
-    (pair_value r.pair)) (side r.bus r.pair size r.bytes) (side (g.B.Bus.meaning c.tell.new.bus) c.tell.new.self
-    (g.M.PagedMemory.page_len c.loop-batch.host.mem) (g.M.PagedMemory.bytes c.loop-batch.host.mem)))
-    (run_is c.requires.1.1.0) (ended g c).left
+    let is = run_is c.requires.1.1.0 in
+    let all : length g.begun.run.requests ≤ c.loop-batch.batch.collected =
+    omega (arith, c.loop-batch-test.false, counted c.requires.1.1.1.1.0 (c.len.ensures _)) in
+    let end = ends_all g.B.Bus.meaning i.under_way all c.tell.ensures.told c.tell.ensures.written c.tell.ensures.silent
+    (c.requires.1.1.1.0.page_size ∙ ap (λ (r : Run). r.geometry.page_size) (sym is)) in
+    record {
+      received = rw (← (all_collected i.under_way all).1) i.received;
+      state = end.state ∙ ap (λ (r : Run). state_after_all r.controller r.bus.state (numbered_of g.begun.run)) is;
+      paced = end.paced;
+      others = rw is at end.others;
+      left = subst (λ (r : Run). IsLeft r.geometry r.controller (length r.bytes) (after_some
+          (length g.begun.run.requests) (pair_value r.pair)) (side r.bus r.pair (g.M.PagedMemory.page_len
+          c.args.host.now.mem) r.bytes) (side (g.B.Bus.meaning c.tell.new.bus) c.tell.new.self
+          (g.M.PagedMemory.page_len c.loop-batch.host.mem) (g.M.PagedMemory.bytes c.loop-batch.host.mem))) is end.left;
+    }

@@ -1,6 +1,4 @@
-use Rattle.nv_driver.proofs.Words.{◌++◌, ◌∙◌, ap, arith, is_success, length, padded}
-use Rattle.nv_prp.specs.Buffer.{buffer_places}
-use Rattle.nv_prp.specs.Place.{read_at}
+use Rattle.nv_driver.proofs.Words.{◌++◌, ◌∙◌, ap, arith, buffer_places, is_success, length, padded, read_at}
 use Rattle.nv_driver.proofs.PaddingLaws.{came_as, padded_read}
 use Rattle.nv_driver.proofs.passthrough.receive.Goals as goal
 

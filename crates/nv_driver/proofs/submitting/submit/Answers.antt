@@ -1,6 +1,5 @@
-use Rattle.nv_driver.proofs.Words.{◌<◌, ◌∙◌, ◌≡◌, arith, page_size_bounds, places, refl, request_as, rules, sent_at}
-use Rattle.nv_prp.specs.Place.{written_at}
-use Rattle.nv_driver.specs.inner.Submitting.{request_place}
+use Rattle.nv_driver.proofs.Words.{◌<◌, ◌∙◌, ◌≡◌, arith, page_size_bounds, places, refl, request_as, request_place}
+use Rattle.nv_driver.proofs.Words.{rules, sent_at, written_at}
 use Rattle.nv_driver.proofs.SubmittingLaws.{buffer_later, changes_list, on_ok, pairs_same, prepared_by}
 use Rattle.nv_driver.proofs.submitting.submit.Goals as goal
 

@@ -1,14 +1,13 @@
-use Rattle.nv_driver.proofs.Words.{[], ℕ, ◌%◌, ◌+◌, ◌<◌, ◌∙◌, ◌≡◌, ◌≤◌, Batch, CommandPages, Geometry, IsPlaceFor}
-use Rattle.nv_driver.proofs.Words.{IsRequest, IsSubmittedAt, List, Request, all_pages, ap, arith, bytes_from_host}
-use Rattle.nv_driver.proofs.Words.{data_count, get_or, get_or-set_same, get_or_default, length, length_of, limit_of}
-use Rattle.nv_driver.proofs.Words.{mod_below, place_in, request_as, set, set-get_or, setting_of, slot, subst, sym}
-use Rattle.nv_driver.proofs.ShareLaws.{data_fits}
-use Rattle.nv_driver.proofs.CommandPageLaws.{all_count, place_of_set}
-use Rattle.nv_driver.proofs.OnWayLaws.{has_bank}
+use Rattle.nv_driver.proofs.Words.{ℕ, ◌%◌, ◌+◌, ◌<◌, ◌∙◌, ◌≡◌, ◌≤◌, Batch, CommandPages, Geometry, IsRequest, List}
+use Rattle.nv_driver.proofs.Words.{Request, all_pages, ap, arith, bytes_from_host, data_count, get_or, get_or-set_same}
+use Rattle.nv_driver.proofs.Words.{get_or_default, length, length_of, limit_of, mod_below, place_in, request_as, set}
+use Rattle.nv_driver.proofs.Words.{set-get_or, setting_of, slot, sym}
+use Rattle.nv_driver.proofs.PointerLaws.{all_count, data_fits, no_pages, place_of_set}
+use Rattle.nv_driver.proofs.OnWayLaws.{geometry_is, has_bank}
 use Rattle.nv_driver.proofs.RoundLaws.{rings}
 use Rattle.nv_driver.proofs.SubmittingLaws.{submitted_as}
 use Rattle.nv_driver.proofs.TurnLaws.{no_command}
-use Rattle.nv_driver.proofs.UnderWayLaws.{IsSentIn, free_slot, geometry_is, room_few, set_has, still_inside, submits_at}
+use Rattle.nv_driver.proofs.UnderWayLaws.{IsSentIn, counted, free_slot, room_few, set_has, still_inside, submits}
 use Rattle.nv_driver.proofs.UnderWayLaws.{tail_after}
 use Rattle.nv_driver.proofs.batch.Batch.send.Goals.{After-outgoing-request}
 use Rattle.nv_driver.proofs.batch.Batch.send.Given as given
@@ -29,17 +28,9 @@ sent_as g c =
     let limit = limit_of g.begun.run.bus.state g.begun.run.controller in
     let of = c.requires.1.1.0 in
     let below : n < length g.begun.run.requests =
-    omega (
-      arith,
-      c.len.ensures limit,
-      ap (λ (qs : List Request). length qs) of.requests,
-      c.min.ensures,
-      c.loop-number-test.true,
-      c.loop-number.auto.number,
-    ) in (
+    omega (arith, counted of (c.len.ensures _), c.min.ensures, c.loop-number-test.true, c.loop-number.auto.number) in (
       below,
-      subst (λ (qs : List Request). request_as c.outgoing-request.result (get_or qs n no_command.request).asked
-          ≡ get_or qs n no_command.request) of.requests (c.outgoing-request.ensures limit no_command.request),
+      rw (← of.requests) (c.outgoing-request.ensures limit no_command.request),
       of.can n no_command.request below,
     )
 
@@ -49,7 +40,7 @@ has_room : (g : given.Over) (c : After-outgoing-request g)
 has_room g c =
     let i = c.loop-number.invariant in
     let window = ap (λ (q : Geometry). q.window)
-    (c.geometry.view_is ∙ c.geometry-geometry.ensures ∙ geometry_is c.requires.1.1.1.0) in
+    (c.geometry.view_is ∙ c.geometry-geometry.ensures ∙ geometry_is c.requires.1.1.1.0.on_way) in
     let sent = ap (λ (b : Batch). b.sent) i.batch in
     let collected = ap (λ (b : Batch). b.collected) i.batch in
     omega (arith, c.min.ensures, c.from.ensures, window, sent, collected, c.loop-number-test.true)
@@ -65,7 +56,7 @@ take-requires g c =
     let of = c.requires.1.1.0 in
     let past = (goal.at.take-requires g c).After-outgoing-request in
     let one = sent_as g past in
-    let same = c.geometry-geometry.ensures ∙ geometry_is c.requires.1.1.1.0 in
+    let same = c.geometry-geometry.ensures ∙ geometry_is c.requires.1.1.1.0.on_way in
     let sent = ap (λ (b : Batch). b.sent) i.batch in
     let few : length_of c.outgoing-request.result.transfer ≤ of.most =
     let brief = of.brief c.loop-number.number no_command.request one.0 in
@@ -73,20 +64,9 @@ take-requires g c =
     let size = ap (λ (q : Geometry). data_count q (length_of c.outgoing-request.result.transfer) + 2) same in
     let all = (data_fits g.begun.run.geometry (length_of c.outgoing-request.result.transfer) of.most
     i.under_way.begun.geometry few).1 in
-    record {
-      few = c.page_count-count.ensures.most;
-      enough = omega (
-        arith,
-        c.page_count-count.ensures.pages,
-        size,
-        all,
-        set_has i.under_way of (has_room g past) (omega (arith, sent, one.0)),
-      );
-    }
-
--- pages that stand for those of a slot outside the window
-abbrev no_pages : CommandPages
-no_pages = record { numbers = []; count = 0 }
+    let pages = set_has i.under_way of (has_room g past) (omega (arith, sent, one.0)) in
+    let count = c.page_count-count.ensures in
+    record { few = count.most; enough = omega (arith, count.pages, size, all, pages) }
 
 -- the pages that were taken are in their slot
 in_slot : (places : List CommandPages) (n : ℕ) (o e : CommandPages) → length places ≡ 16
@@ -108,7 +88,7 @@ submit-next-requires g c =
     let u = i.under_way in
     let past = (goal.at.submit-next-requires g c).After-outgoing-request in
     let one = sent_as g past in
-    let same = c.geometry-geometry.ensures ∙ geometry_is c.requires.1.1.1.0 in
+    let same = c.geometry-geometry.ensures ∙ geometry_is c.requires.1.1.1.0.on_way in
     let e = c.take.ensures in
     let o = c.take.new.self in
     let x = c.outgoing-request.result in
@@ -124,10 +104,8 @@ submit-next-requires g c =
       few = omega (arith, ap (λ (q : Request). length_of q.transfer) one.1, room_few _ one.2.room);
       sent = ap (λ (q : Request). length q.sends) one.1 ∙ one.2.sends
           ∙ ap (λ (q : Request). bytes_from_host q.transfer) (sym one.1);
-      place = subst (λ p. IsPlaceFor (g.M.PagedMemory.bytes c.loop-number.host.mem)
-          (g.M.PagedMemory.page_len c.loop-number.host.mem) p len)
-          (sym (rw (in_slot c.loop-number.host.taken c.loop-number.number o no_pages u.room) at
-          c.place-place.ensures.place ∙ ap (λ (q : Geometry). place_in q (all_pages o)) same)) place;
+      place = rw (rw (in_slot c.loop-number.host.taken c.loop-number.number o no_pages u.room) at
+          c.place-place.ensures.place ∙ ap (λ (q : Geometry). place_in q (all_pages o)) same) place;
       slot = record { next_cid = slot.next_cid; ring = slot.ring; free = slot.free };
     }
 
@@ -137,7 +115,7 @@ loop-number-preserved g c =
     let u = i.under_way in
     let past = (goal.at.loop-number-preserved g c).After-outgoing-request in
     let one = sent_as g past in
-    let same = c.geometry-geometry.ensures ∙ geometry_is c.requires.1.1.1.0 in
+    let same = c.geometry-geometry.ensures ∙ geometry_is c.requires.1.1.1.0.on_way in
     let sent = ap (λ (b : Batch). b.sent) i.batch in
     let collected = ap (λ (b : Batch). b.collected) i.batch in
     let told = ap (λ (b : Batch). b.told) i.batch in
@@ -158,16 +136,13 @@ loop-number-preserved g c =
       long = omega (arith, e.count, e.long, c.page_count-count.ensures.most);
       taken = e.taken;
       lowest = e.lowest;
-      one = subst (λ s. IsSubmittedAt g.begun.run.geometry.page_size (place_in g.begun.run.geometry (all_pages o)) q
-          (record l { pages = s }) c.submit-next.new.pair (g.M.PagedMemory.bytes c.loop-number.host.mem)
-          (g.M.PagedMemory.bytes c.submit-next.new.mem) (g.M.PagedMemory.page_len c.submit-next.new.mem)
-          c.submit-next.result) e.set next;
+      one = rw (← e.set) next;
     } in
     let there = set-get_or (set c.loop-number.host.taken (n % 16) o) (n % 16) no_pages in
     record {
-      under_way = rw there (submits_at u sent (has_room g past) (sym collected)
-          (omega (arith, c.requires.1.1.1.1, sent, collected, told)) one.0
-          (get_or_default g.begun.run.requests n no_command.request q one.0) sub);
+      under_way = rw there (submits u (has_room g past) (omega (arith, sent, one.0))
+          (rw sent (get_or_default g.begun.run.requests n no_command.request q one.0)) sub sent (sym collected)
+          (omega (arith, c.requires.1.1.1.1, sent, collected, told)));
       batch = ap (λ (b : Batch). record b { sent = b.sent + 1 }) i.batch;
       from = omega arith;
       tail = (tail_after u sent next.tail, omega (arith, i.from));
@@ -185,10 +160,9 @@ returns-in-Some-clause-under_way g c =
     let told = ap (λ (b : Batch). b.told) i.batch in
     let some = rw (c.in-Some.is) at i.tail in
     let window = ap (λ (q : Geometry). q.window)
-    (c.geometry.view_is ∙ c.geometry-geometry.ensures ∙ geometry_is c.requires.1.1.1.0) in
+    (c.geometry.view_is ∙ c.geometry-geometry.ensures ∙ geometry_is c.requires.1.1.1.0.on_way) in
     let of = c.requires.1.1.0 in
-    let many = c.len.ensures (limit_of g.begun.run.bus.state g.begun.run.controller)
-    ∙ ap (λ (qs : List Request). length qs) of.requests in
+    let many = counted of (c.len.ensures _) in
     rw (← collected) at (rings i.under_way
     (some.0 ∙ ap (slot (setting_of g.begun.run)) (sym sent)) w.state w.banks w.bus w.written w.rung (sym collected)
     (omega (arith, c.requires.1.1.1.1, collected, told)) (omega (arith, sent, collected, window, many))

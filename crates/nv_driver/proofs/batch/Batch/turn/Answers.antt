@@ -1,14 +1,13 @@
-use Rattle.nv_driver.proofs.Words.{[], ℕ, ◌%◌, ◌*◌, ◌+◌, ◌-◌, ◌<◌, ◌∙◌, ◌≡◌, ◌≢◌, ◌≤◌, All, AreReceived, AreSendable}
-use Rattle.nv_driver.proofs.Words.{Batch, Command, CommandPages, Geometry, IsHeld, IsSendable, IsToldByPace, List}
-use Rattle.nv_driver.proofs.Words.{Pages, QueuePairFields, Request, Sent, all_pages, ap, arith, get_or, get_or-map}
-use Rattle.nv_driver.proofs.Words.{get_or_default, inl, length, length-map, length-take, limit_of, map, min, mod_below}
-use Rattle.nv_driver.proofs.Words.{place_in, refl, request_of, requests_in, set, set-get_or, subst, sym}
-use Rattle.nv_driver.proofs.OnWayLaws.{can_collect}
-use Rattle.nv_driver.proofs.RoundLaws.{answer_buffer, answers_more, awaits, can_give, collects, count_few, hears}
-use Rattle.nv_driver.proofs.RoundLaws.{command_result_with, held_one, number_inside, received_on, takes, tells_on}
-use Rattle.nv_driver.proofs.RoundLaws.{turns_idly}
-use Rattle.nv_driver.proofs.RoundLaws.{turns_on}
-use Rattle.nv_driver.proofs.UnderWayLaws.{geometry_is}
+use Rattle.nv_driver.proofs.Words.{ℕ, ◌%◌, ◌*◌, ◌+◌, ◌-◌, ◌<◌, ◌∙◌, ◌≡◌, ◌≤◌, All, AreReceived, AreSendable, Batch}
+use Rattle.nv_driver.proofs.Words.{Command, CommandPages, Geometry, IsHeld, IsSendable, IsToldByPace, List, Pages}
+use Rattle.nv_driver.proofs.Words.{QueuePairFields, Request, Sent, all_pages, ap, arith, get_or, get_or-map, inl}
+use Rattle.nv_driver.proofs.Words.{length, length-map, length-take, limit_of, map, min, place_in, refl, request_of}
+use Rattle.nv_driver.proofs.Words.{requests_in, set-get_or, subst, sym}
+use Rattle.nv_driver.proofs.PointerLaws.{no_pages}
+use Rattle.nv_driver.proofs.OnWayLaws.{can_collect, geometry_is}
+use Rattle.nv_driver.proofs.RoundLaws.{answer_buffer, answers_more, awaits, can_give, collects, command_result_with}
+use Rattle.nv_driver.proofs.RoundLaws.{count_few, hears, held_at, number_inside, received_on, takes, tells_on}
+use Rattle.nv_driver.proofs.RoundLaws.{turns_idly, turns_on}
 use Rattle.nv_driver.proofs.batch.Batch.turn.Given.{Over}
 use Rattle.nv_driver.proofs.batch.Batch.turn.Goals.{else-self-pace, in-Commands, in-Entry, then-self-pace}
 use Rattle.nv_driver.proofs.batch.Batch.turn.Goals as goal
@@ -38,16 +37,6 @@ none_free most waiting depth done told count is none some waits deep =
     no_slot : (free : ℕ) → 0 ≡ min most (min waiting free) → free ≡ 0
     no_slot free e = omega arith
 
--- pages that stand for those of a slot outside the window
-abbrev no_pages : CommandPages
-no_pages = record { numbers = []; count = 0 }
-
--- the slot of a number in the window, whatever stands outside the window
-slot_is : (places : List CommandPages) (n : ℕ) (e : CommandPages) → length places ≡ 16
-    → get_or places (n % 16) e ≡ get_or places (n % 16) (get_or places (n % 16) e)
-slot_is places n e room = get_or_default places (n % 16) e (get_or places (n % 16) e)
-    (omega (arith, room, mod_below n 16 (omega arith)))
-
 -- a command has at least the two pages for a list
 at_least : {o : CommandPages} {x : Sent} → IsHeld o x → 2 ≤ o.count
 at_least {o} {x} h = omega (arith, ap (λ (xs : List ℕ). length xs) h.pages, length-take o.count o.numbers)
@@ -58,24 +47,13 @@ told_once : {pace limit old new : ℕ} (times before : ℕ) → old ≡ before +
 told_once {pace} {limit} {old} {new} times before h e f some =
     let more : new ≡ old + pace = omega arith in (times + 1, grind arith)
 
--- the head doorbell isn't rung before as many answers as the pace were collected
-not_yet : (n told : ℕ) {limit pace : ℕ} → n + 1 - told ≢ limit → limit ≡ pace → n < told + pace → n + 1 < told + pace
-not_yet n told far is near = omega arith
-
--- one more was collected
-further : (n first counter : ℕ) → n ≡ first + counter → n + 1 ≡ first + (counter + 1)
-further n first counter is = omega arith
-
--- nothing is to be reported once all is reported
-all_near : {pace : ℕ} (n : ℕ) → 1 ≤ pace → n < n + pace
-all_near n some = omega arith
-
 pub returns-then-posted-eq0 : goal.returns-then-posted-eq0
 returns-then-posted-eq0 g c =
     let u = c.requires.1.1.1.0 in
     let rest = c.requires.1.1.1.1 in
     let e = c.turn-posted.ensures in
-    let pace = ap (λ (q : Geometry). q.pace) (c.geometry.view_is ∙ c.geometry-geometry.ensures ∙ geometry_is u) in
+    let pace = ap (λ (q : Geometry). q.pace)
+    (c.geometry.view_is ∙ c.geometry-geometry.ensures ∙ geometry_is u.on_way) in
     let some = u.begun.geometry.pace in
     let deep = u.begun.laid.deep in
     let none : c.turn-posted.result ≡ 0 = omega arith in
@@ -97,7 +75,8 @@ loop-init g c =
     let u = c.requires.1.1.1.0 in
     let rest = c.requires.1.1.1.1 in
     let e = c.turn-posted.ensures in
-    let pace = ap (λ (q : Geometry). q.pace) (c.geometry.view_is ∙ c.geometry-geometry.ensures ∙ geometry_is u) in
+    let pace = ap (λ (q : Geometry). q.pace)
+    (c.geometry.view_is ∙ c.geometry-geometry.ensures ∙ geometry_is u.on_way) in
     let h = turns_on u e.turn e.turned pace e.bus e.len e.page refl rest.1.1.1 rest.1.1.0 refl rest.1.0 refl
     (omega arith) in
     record {
@@ -120,8 +99,7 @@ bounds-answers-number g c =
     let i = c.loop.invariant in
     let more : c.loop.self.collected < c.args.self.now.collected + c.turn-posted.result =
     omega (arith, i.collected, c.loop-test.true) in
-    let has = subst (λ q. AreReceived q g.begun.run c.loop.self.collected c.loop.answers c.loop.host.taken
-    (g.M.PagedMemory.bytes c.loop.host.mem) c.loop.host.last) c.in-Commands.is i.received in
+    let has = rw c.in-Commands.is at i.received in
     omega (arith, number_inside i.under_way more, has.len)
 
 pub give-requires : goal.give-requires
@@ -130,9 +108,8 @@ give-requires g c =
     let u = i.under_way in
     let n = c.loop.self.collected in
     let more : n < c.args.self.now.collected + c.turn-posted.result = omega (arith, i.collected, c.loop-test.true) in
-    let can = can_give u more (slot_is c.loop.host.taken n no_pages u.room)
-    (ap (λ (q : QueuePairFields). q.pages) c.next_completion-completion.ensures.pair) in
-    record { few = can.few; own = can.own; none = can.none; distinct = can.distinct }
+    assumption (can_give u more no_pages (ap (λ (q : QueuePairFields). q.pages)
+    c.next_completion-completion.ensures.pair))
 
 pub place-place-requires : goal.place-place-requires
 place-place-requires g c =
@@ -140,8 +117,7 @@ place-place-requires g c =
     let u = i.under_way in
     let n = c.loop.self.collected in
     let more : n < c.args.self.now.collected + c.turn-posted.result = omega (arith, i.collected, c.loop-test.true) in
-    let mine = slot_is c.loop.host.taken n no_pages u.room in
-    record { few = count_few u more mine; list = at_least (held_one u more mine) }
+    record { few = count_few u more no_pages; list = at_least (held_at u more no_pages) }
 
 pub receive-requires : goal.receive-requires
 receive-requires g c =
@@ -154,13 +130,13 @@ receive-requires g c =
     let are = ap (requests_in limit) (sym c.in-Commands.is) ∙ of.requests in
     let below : n < length c.in-Commands.commands.now = as_many _ are (number_inside u more) in
     let first = c.next_completion-completion.ensures in
-    let same = c.geometry-geometry.ensures ∙ geometry_is c.requires.1.1.1.0 in
+    let same = c.geometry-geometry.ensures ∙ geometry_is c.requires.1.1.1.0.on_way in
     let o = get_or c.loop.host.taken (n % 16) no_pages in
     let its = c.place-place.ensures.place ∙ ap (λ (q : Geometry). place_in q (all_pages o)) same in
     record {
       sends = sendable_at _ (subst AreSendable c.in-Commands.is of.sends) c.index-commands-number.is below;
       buffer = answer_buffer u more first.value (request_at_command _ are c.index-commands-number.is below)
-          (slot_is c.loop.host.taken n no_pages u.room) its u.page_size;
+          no_pages its u.page_size;
     }
 
 -- the answers with one more
@@ -178,9 +154,8 @@ received_more g c =
     let of = c.requires.1.1.0 in
     let limit = limit_of r.bus.state r.controller in
     let first = c.next_completion-completion.ensures in
-    let same = c.geometry-geometry.ensures ∙ geometry_is c.requires.1.1.1.0 in
+    let same = c.geometry-geometry.ensures ∙ geometry_is c.requires.1.1.1.0.on_way in
     let o = get_or c.loop.host.taken (n % 16) no_pages in
-    let mine = slot_is c.loop.host.taken n no_pages u.room in
     let places = c.loop.host.taken in
     let bytes = g.M.PagedMemory.bytes c.loop.host.mem in
     let last = command_result_with c.next_completion-completion.result.command_specific
@@ -190,29 +165,22 @@ received_more g c =
           let are = ap (requests_in limit) (sym w.in-Commands.is) ∙ of.requests in
           let below : n < length w.in-Commands.commands.now = as_many _ are (number_inside u more) in
           let its = w.place-place.ensures.place ∙ ap (λ (q : Geometry). place_in q (all_pages o)) same in
-          let has = subst (λ q. AreReceived q r n c.loop.answers places bytes c.loop.host.last) w.in-Commands.is
-          i.received in
+          let has = rw w.in-Commands.is at i.received in
           let all = answers_more u more first.value (request_at_command _ are w.index-commands-number.is below)
-          (sendable_at _ (subst AreSendable w.in-Commands.is of.sends) w.index-commands-number.is below) mine its
+          (sendable_at _ (subst AreSendable w.in-Commands.is of.sends) w.index-commands-number.is below) no_pages its
           u.page_size has w.receive.ensures.answer in
           rw (w.host-is, w.answers-is) (
             refl,
             set-get_or places (n % 16) no_pages,
-            subst (λ q. AreReceived q r (n + 1) (set c.loop.answers n w.receive.new.self) places bytes last)
-                (sym w.in-Commands.is) all,
+            rw w.in-Commands.is all,
           )
       | in-Entry w ↦
-          let zero : n ≡ 0 = omega (
-            arith,
-            number_inside u more,
-            ap (λ (qs : List Request). length qs)
-                (ap (requests_in limit) (sym w.in-Entry.is) ∙ of.requests),
-          ) in
+          let are = ap (requests_in limit) (sym w.in-Entry.is) ∙ of.requests in
+          let zero : n ≡ 0 = omega (arith, number_inside u more, ap (λ (qs : List Request). length qs) are) in
           rw (w.host-is, w.answers-is) (
             refl,
             set-get_or places (n % 16) no_pages,
-            subst (λ q. AreReceived q r (n + 1) c.loop.answers places bytes last)
-                (sym w.in-Entry.is) (λ some. hears u more first.value zero refl),
+            rw w.in-Entry.is (λ some. hears u more first.value zero refl),
           )
     ]
 
@@ -226,10 +194,9 @@ loop-preserved g c =
     let first = c.next_completion-completion.ensures in
     let some = u.begun.geometry.pace in
     let limit = c.from-pace.ensures ∙ ap (λ (q : Geometry). q.pace)
-    (c.geometry.view_is ∙ c.geometry-geometry.ensures ∙ geometry_is c.requires.1.1.1.0) in
-    let mine = slot_is c.loop.host.taken n no_pages u.room in
+    (c.geometry.view_is ∙ c.geometry-geometry.ensures ∙ geometry_is c.requires.1.1.1.0.on_way) in
     let pair = c.next_completion-completion.new.self in
-    let here = collects u more first.value mine first.pair
+    let here = collects u more first.value no_pages first.pair
     (ap (λ (s : Pages). record pair { pages = s }) c.give.ensures) i.near in
     let got = received_more g c in
     let next = rw (← got.0, ← got.1) at here in
@@ -244,8 +211,8 @@ loop-preserved g c =
             under_way = told;
             received = received;
             batch = ap (λ (b : Batch). record b { collected = n + 1; told = n + 1 }) i.batch;
-            collected = further n _ _ i.collected;
-            near = all_near (n + 1) some.0;
+            collected = omega (arith, i.collected);
+            near = omega (arith, some);
             paced = told_once _ _ i.paced.1 w.if-self-pace.true limit (omega (arith, some));
             count = i.count;
           })
@@ -254,8 +221,8 @@ loop-preserved g c =
             under_way = next;
             received = received;
             batch = ap (λ (b : Batch). record b { collected = n + 1 }) i.batch;
-            collected = further n _ _ i.collected;
-            near = not_yet n _ w.if-self-pace.false limit i.near;
+            collected = omega (arith, i.collected);
+            near = omega (arith, w.if-self-pace.false, limit, i.near);
             paced = i.paced;
             count = i.count;
           })

@@ -1,6 +1,6 @@
 use Rattle.nv_driver.proofs.Words.{arith, page_size_bounds}
 use Rattle.nv_driver.specs.CheckedGeometry.{geometry_of}
-use Rattle.nv_driver.proofs.ShareLaws.{few_of_entry}
+use Rattle.nv_driver.proofs.PointerLaws.{few_of_entry}
 use Rattle.nv_driver.proofs.checked_geometry.CheckedGeometry.page_count.Goals as goal
 
 pub overflow_add-self-inside : goal.overflow_add-self-inside
@@ -10,9 +10,5 @@ overflow_add-self-inside c =
 
 pub returns-clause-most : goal.returns-clause-most
 returns-clause-most c =
-    omega (
-      arith,
-      few_of_entry (geometry_of c.self.inside) c.bytes-len.result c.self.invariant
-          (omega (arith, c.requires, c.bytes-len.ensures)),
-      c.div_ceil.ensures,
-    )
+    let most = few_of_entry (geometry_of c.self.inside) c.bytes-len.result c.self.invariant
+    (omega (arith, c.requires, c.bytes-len.ensures)) in omega (arith, most, c.div_ceil.ensures)

@@ -1,10 +1,10 @@
-use Rattle.nv_driver.proofs.Words.{◌∙◌, ◌≡◌, IsOf, Pages, all_pages, ap, arith, get_or, length, subst, sym, take}
+use Rattle.nv_driver.proofs.Words.{◌∙◌, ◌≡◌, IsOf, Pages, all_pages, ap, arith, get_or, length, refl, subst, sym, take}
 use Rattle.nv_driver.proofs.Words.{take-length, take_more, with_pages}
-use Rattle.nv_driver.proofs.PageSetLaws.{giving_more, giving_none, not_given}
+use Rattle.nv_driver.proofs.PageSetLaws.{giving_more, not_given}
 use Rattle.nv_driver.proofs.command_pages.CommandPages.give.Goals as goal
 
 pub loop-at-init : goal.loop-at-init
-loop-at-init c = giving_none c.args.free.now
+loop-at-init c = refl
 
 pub give-requires-clause-of_these : goal.give-requires-clause-of_these
 give-requires-clause-of_these c =

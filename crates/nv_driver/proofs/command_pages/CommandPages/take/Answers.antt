@@ -28,13 +28,10 @@ loop-at-preserved c =
     let below : at < length numbers = omega (arith, c.loop-at-test.true, inv.seven, c.requires.few) in
     let more = sym (take_more_set numbers at c.unwrap.result below) in
     record {
-      taking = subst (λ ps. Taking c.args.free.now c.take.new.self ps) more
-          (taking_next c.args.free.now c.loop-at.free c.take.new.self (take at numbers)
-          c.take.result c.unwrap.result inv.taking c.unwrap.ensures
-          c.take.ensures.taken c.take.ensures.of_these);
-      lowest = subst (λ ps. AreLowest c.args.free.now ps) more
-          (lowest_next c.args.free.now c.loop-at.free c.take.new.self (take at numbers) c.take.result c.unwrap.result
-          inv.taking.left c.unwrap.ensures c.take.ensures.taken inv.lowest);
+      taking = rw (← more) (taking_next c.args.free.now c.loop-at.free c.take.new.self (take at numbers) c.take.result
+          c.unwrap.result inv.taking c.unwrap.ensures c.take.ensures.taken c.take.ensures.of_these);
+      lowest = rw (← more) (lowest_next c.args.free.now c.loop-at.free c.take.new.self (take at numbers) c.take.result
+          c.unwrap.result inv.taking.left c.unwrap.ensures c.take.ensures.taken inv.lowest);
       seven = length-set numbers at c.unwrap.result ∙ inv.seven;
     }
 

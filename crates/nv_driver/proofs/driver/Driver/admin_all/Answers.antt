@@ -1,12 +1,10 @@
 use Rattle.nv_driver.proofs.Words.{◌<◌, ◌∙◌, ◌≤◌, ActiveList, All, Command, IsRequest, List, Request, SendsAll}
-use Rattle.nv_driver.proofs.Words.{after_some, ap, arith, get_or, get_or-map, length, length-map, length_of}
-use Rattle.nv_driver.proofs.Words.{limit_bounds, limit_of, map, min, mul-le-mul_right, pages_of_command, refl}
-use Rattle.nv_driver.proofs.Words.{request_of, rules, run_of, subst, sym, transfer_by}
-use Rattle.nv_driver.proofs.DataLaws.{most, shape}
+use Rattle.nv_driver.proofs.Words.{after_some, answers_of, ap, arith, get_or, get_or-map, length, length-map, length_of}
+use Rattle.nv_driver.proofs.Words.{limit_bounds, limit_of, map, min, most_bytes, mul-le-mul_right, pages_of_command}
+use Rattle.nv_driver.proofs.Words.{refl, request_of, rules, run_of, state_after, subst, sym, transfer_by}
+use Rattle.nv_driver.proofs.DataLaws.{most, shape as shape_of}
 use Rattle.nv_driver.proofs.EndLaws.{answers_all}
 use Rattle.nv_driver.proofs.RequestLaws.{is_request}
-use Rattle.nv_driver.specs.Batch.{answers_of, state_after}
-use Rattle.nv_driver.specs.Layout.{most_bytes}
 use Rattle.nv_driver.proofs.AdminLaws.{HasPair, cid_is, driver_after, ends_inside, goes_over, left_at, linked_after}
 use Rattle.nv_driver.proofs.AdminLaws.{ready_by, room_by, value_after}
 use Rattle.nv_driver.proofs.driver.Driver.admin_all.Given.{Over}
@@ -35,6 +33,7 @@ exchange_all-requires g c κs within =
     let ready = ready_by pair c.requires.linked in
     let s = (g.B.Bus.meaning c.args.bus.now).state in
     let enough = (limit_bounds s c.args.ctrl ready.bus.state (omega (arith, ready.controller, ready.bus.banks))).0 in
+    let shape = c.index_mut-pair.result.now.geometry in
     let ks = c.args.commands.now in (
       search rules,
       (
@@ -51,15 +50,10 @@ exchange_all-requires g c κs within =
                 sends = c.requires.sends;
                 most = most_bytes;
                 brief = each_of ks (λ q. length_of q.transfer ≤ most_bytes)
-                    (λ i d h. most (transfer_by (get_or ks i d)) (shape (get_or ks i d) (c.requires.sends i d h)));
+                    (λ i d h. most (transfer_by (get_or ks i d)) (shape_of (get_or ks i d) (c.requires.sends i d h)));
                 room =
-                    let few : min c.index_mut-pair.result.now.geometry.window (length (map request_of ks))
-                    ≤ c.index_mut-pair.result.now.geometry.window = omega arith in
-                    omega (
-                      arith,
-                      mul-le-mul_right (pages_of_command c.index_mut-pair.result.now.geometry.page_size) few,
-                      room_by pair,
-                    );
+                    let few : min shape.window (length (map request_of ks)) ≤ shape.window = omega arith in
+                    omega (arith, mul-le-mul_right (pages_of_command shape.page_size) few, room_by pair);
               },
               record { len = c.requires.len ∙ sym (length-map ks request_of); first = refl },
             ),
@@ -73,33 +67,19 @@ invariant_of-self g c =
     let pair = its_pair g (goal.at.invariant_of-self g c).After-deref_mut in
     driver_after pair (left_at pair c.exchange_all.ensures.left) (ends_inside pair)
 
-pub returns-clause-answers : goal.returns-clause-answers
-returns-clause-answers g c =
-    answers_all refl c.exchange_all.ensures.received refl
-    ∙ ap (λ n. answers_of c.args.ctrl (g.B.Bus.meaning c.args.bus.now).state n c.args.commands.now)
-    (sym (cid_is (its_pair g (goal.at.returns-clause-answers g c).After-deref_mut)))
-
-pub returns-clause-state : goal.returns-clause-state
-returns-clause-state g c =
-    c.exchange_all.ensures.state
-    ∙ ap (λ n. state_after c.args.ctrl (g.B.Bus.meaning c.args.bus.now).state n c.args.commands.now)
-    (sym (cid_is (its_pair g (goal.at.returns-clause-state g c).After-deref_mut)))
-
-pub returns-clause-driver : goal.returns-clause-driver
-returns-clause-driver g c =
-    let pair = its_pair g (goal.at.returns-clause-driver g c).After-deref_mut in
-    value_after pair (left_at pair (rw (length-map c.args.commands.now request_of) at c.exchange_all.ensures.left))
-    (after_some (length c.args.commands.now)) refl
-
-pub returns-clause-linked : goal.returns-clause-linked
-returns-clause-linked g c =
-    let pair = its_pair g (goal.at.returns-clause-linked g c).After-deref_mut in
-    linked_after pair (left_at pair c.exchange_all.ensures.left) c.requires.linked
-
-pub returns-clause-steps : goal.returns-clause-steps
-returns-clause-steps g c =
-    let pair = its_pair g (goal.at.returns-clause-steps g c).After-deref_mut in
-    goes_over pair (λ q l bytes. SendsAll g.B.Bus.was_written g.B.Ringing.was_rung g.B.Bus.was_turned
-    (run_of q c.args.ctrl (g.B.Bus.meaning c.args.bus.now) l bytes (map request_of c.args.commands.now)) c.args.bus.now
-    c.exchange_all.new.bus)
-    (ready_by pair c.requires.linked).quiet c.exchange_all.ensures.paced.steps
+pub returns : goal.returns
+returns g c =
+    let pair = its_pair g (goal.at.returns g c).After-deref_mut in
+    let e = c.exchange_all.ensures in
+    let b = g.B.Bus.meaning c.args.bus.now in
+    let ks = c.args.commands.now in
+    let cid = sym (cid_is pair) in
+    record {
+      answers = answers_all e.received ∙ ap (λ n. answers_of c.args.ctrl b.state n ks) cid;
+      state = e.state ∙ ap (λ n. state_after c.args.ctrl b.state n ks) cid;
+      driver = value_after pair (left_at pair (rw (length-map ks request_of) at e.left)) (after_some (length ks)) refl;
+      linked = linked_after pair (left_at pair e.left) c.requires.linked;
+      steps = goes_over pair (λ q l bytes. SendsAll g.B.Bus.was_written g.B.Ringing.was_rung g.B.Bus.was_turned
+          (run_of q c.args.ctrl b l bytes (map request_of ks)) c.args.bus.now c.exchange_all.new.bus)
+          (ready_by pair c.requires.linked).quiet e.paced.steps;
+    }

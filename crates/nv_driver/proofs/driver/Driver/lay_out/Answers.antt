@@ -1,7 +1,6 @@
-use Rattle.nv_driver.proofs.Words.{◌+◌, ◌∙◌, ◌≡◌, Geometry, IsGeometry, ap, arith, banks_of, driver_with, idle_banks}
-use Rattle.nv_driver.proofs.Words.{if◌then◌else◌, length, pages_of_entry, pairs_of, rules, subst, sym}
+use Rattle.nv_driver.proofs.Words.{◌+◌, ◌∙◌, ◌≡◌, Geometry, IsGeometry, Still, ap, arith, banks_of, driver_with}
+use Rattle.nv_driver.proofs.Words.{idle_banks, if◌then◌else◌, length, pages_of_entry, pairs_of, rules, subst, sym}
 use Rattle.nv_host.specs.declared.memory.FlatMemory.{FlatMemory}
-use Rattle.nv_driver.specs.BringingUp.{Still}
 use Rattle.nv_driver.specs.declared.host_side.HostSide.{HostSide}
 use Rattle.nv_driver.proofs.BringingUpLaws.{same_geometry}
 use Rattle.nv_driver.proofs.MemoryLaws.{IsFirst, driver_at_first, has_pairs}

@@ -1,20 +1,15 @@
-use Rattle.nv_driver.proofs.Words.{[], ℕ, ◌∙◌, ◌∷◌, CommandPages, Geometry, GoesOver, HasEntryPages, IsReceived, List}
-use Rattle.nv_driver.proofs.Words.{Pages, QueuePairFields, SendsAll, after_some, all_pages, ap, arith, asked_in}
-use Rattle.nv_driver.proofs.Words.{entry_step, get_or, length, limit_of, place_in, refl, request_for, rules, run_of}
-use Rattle.nv_driver.proofs.Words.{World, subst, sym, command_result_of}
-use Rattle.nv_driver.specs.Alone.{IsReadIn}
+use Rattle.nv_driver.proofs.Words.{[], ℕ, ◌∙◌, ◌∷◌, Geometry, HasEntryPages, IsReadIn, List, Pages, QueuePairFields}
+use Rattle.nv_driver.proofs.Words.{SendsAll, World, after_some, all_pages, ap, arith, command_result_of, entry_step}
+use Rattle.nv_driver.proofs.Words.{get_or, length, limit_of, place_in, refl, request_for, rules, run_of, subst, sym}
+use Rattle.nv_driver.proofs.PointerLaws.{no_pages}
 use Rattle.nv_driver.proofs.AdminLaws.{HasPair, after_first, cid_is, driver_after, goes_over, left_at, linked_after}
 use Rattle.nv_driver.proofs.AdminLaws.{ready_by, shape_at, value_after}
-use Rattle.nv_driver.proofs.ExchangeLaws.{CanPass, few_pages, its_buffer, left_with, of_entry, own_ready, pages_back}
-use Rattle.nv_driver.proofs.ExchangeLaws.{read_by, received_by, command_result_is}
+use Rattle.nv_driver.proofs.ExchangeLaws.{CanPass, command_result_is, few_pages, its_buffer, left_with, of_entry}
+use Rattle.nv_driver.proofs.ExchangeLaws.{own_ready, pages_back, read_by, received_by}
 use Rattle.nv_driver.proofs.PassthroughLaws.{can_pass, ends_before, more_is, room_stays}
 use Rattle.nv_driver.proofs.driver.Driver.passthrough.Given.{Over}
 use Rattle.nv_driver.proofs.driver.Driver.passthrough.Goals.{After-deref_mut-host}
 use Rattle.nv_driver.proofs.driver.Driver.passthrough.Goals as goal
-
--- pages that stand for those of a slot outside the window
-abbrev no_pages : CommandPages
-no_pages = record { numbers = []; count = 0 }
 
 -- the driver and the controller's queue pair
 its_pair : (g : Over) (c : After-deref_mut-host g) → HasPair c.self.inside.geometry c.deref_mut-host.result.now.mem
@@ -35,19 +30,9 @@ passes g c = can_pass (its_pair g c) c.swap.ensures.x_after c.requires.room c.re
 pub exchange_all-requires : goal.exchange_all-requires
 exchange_all-requires g c κs within =
     let can = passes g (goal.at.exchange_all-requires g c).After-deref_mut-host in
-    let given = c.args.bytes.now in (
-      search rules,
-      (
-        search rules,
-        (
-          refl,
-          (
-            own_ready given can,
-            (of_entry given can _ refl tt, λ some. absurd (omega arith)),
-          ),
-        ),
-      ),
-    )
+    let given = c.args.bytes.now in
+    let own = own_ready given can in
+    (search rules, (search rules, (refl, (own, (of_entry given can _ refl tt, λ some. absurd (omega arith))))))
 
 pub place-place-requires : goal.place-place-requires
 place-place-requires g c =
@@ -76,77 +61,39 @@ invariant_of-self g c =
     rw (c.swap-2.ensures.x_after ∙ c.swap.ensures.y_after, back)
     (driver_after pair (left_at pair left) (ends_before pair c.swap.ensures.x_after))
 
-pub returns-clause-out : goal.returns-clause-out
-returns-clause-out g c =
-    let past = (goal.at.returns-clause-out g c).After-deref_mut-host in
+pub returns : goal.returns
+returns g c =
+    let past = (goal.at.returns g c).After-deref_mut-host in
     let pair = its_pair g past in
-    let can = passes g past in
-    let pages = all_pages (get_or c.exchange_all.new.host.taken 0 no_pages) in
-    let its = c.place-place.ensures.place ∙ ap (λ (p : Geometry). place_in p pages) (sym (shape_at pair)) in
-    let s = (g.B.Bus.meaning c.args.bus.now).state in
-    subst (λ n. IsReceived (asked_in s c.args.ctrl c.args.entry.now c.args.bytes.now)
-    (entry_step s c.args.ctrl c.args.entry.now c.args.bytes.now n).answer c.receive.new.out)
-    (sym (cid_is pair))
-    (received_by c.args.bytes.now can (c.exchange_all.ensures.received (omega arith)) no_pages its
-    c.exchange_all.ensures.left.ready.page_size c.transfer_for-transfer.ensures.value (length c.args.out.now)
-    c.receive.ensures)
-
-pub returns-clause-answer : goal.returns-clause-answer
-returns-clause-answer g c =
-    let past = (goal.at.returns-clause-answer g c).After-deref_mut-host in
-    let pair = its_pair g past in
-    let can = passes g past in
-    command_result_is c.args.bytes.now can (c.exchange_all.ensures.received (omega arith))
-    ∙ ap (λ n. command_result_of (entry_step (g.B.Bus.meaning c.args.bus.now).state c.args.ctrl c.args.entry.now
-    c.args.bytes.now n).answer) (sym (cid_is pair))
-
-pub returns-clause-state : goal.returns-clause-state
-returns-clause-state g c =
-    let pair = its_pair g (goal.at.returns-clause-state g c).After-deref_mut-host in
-    c.exchange_all.ensures.state ∙ ap (λ n. (entry_step (g.B.Bus.meaning c.args.bus.now).state c.args.ctrl
-    c.args.entry.now c.args.bytes.now n).state) (sym (cid_is pair))
-
-pub returns-clause-driver : goal.returns-clause-driver
-returns-clause-driver g c =
-    let past = (goal.at.returns-clause-driver g c).After-deref_mut-host in
-    let pair = its_pair g past in
-    let can = passes g past in
-    let e = c.exchange_all.ensures in
-    let left = left_with c.args.bytes.now can e.left e.others in
-    rw (c.swap-2.ensures.x_after ∙ c.swap.ensures.y_after)
-    (value_after pair (left_at pair left) (after_some 1) refl ∙ after_first c.args.self.now c.args.ctrl)
-
-pub returns-clause-linked : goal.returns-clause-linked
-returns-clause-linked g c =
-    let past = (goal.at.returns-clause-linked g c).After-deref_mut-host in
-    let pair = its_pair g past in
-    let can = passes g past in
-    let e = c.exchange_all.ensures in
-    let left = left_with c.args.bytes.now can e.left e.others in
-    rw (c.swap-2.ensures.x_after ∙ c.swap.ensures.y_after)
-    (linked_after pair (left_at pair left) c.requires.linked)
-
-pub returns-clause-steps : goal.returns-clause-steps
-returns-clause-steps g c =
-    let past = (goal.at.returns-clause-steps g c).After-deref_mut-host in
-    let pair = its_pair g past in
+    let given = c.args.bytes.now in
     let can = passes g past in
     let b = g.B.Bus.meaning c.args.bus.now in
+    let step = entry_step b.state c.args.ctrl c.args.entry.now given in
+    let cid = sym (cid_is pair) in
+    let e = c.exchange_all.ensures in
+    let heard = e.received (omega arith) in
     let pages = all_pages (get_or c.exchange_all.new.host.taken 0 no_pages) in
     let its = c.place-place.ensures.place ∙ ap (λ (p : Geometry). place_in p pages) (sym (shape_at pair)) in
-    let e = c.exchange_all.ensures in
+    let left = left_at pair (left_with given can e.left e.others) in
+    let back = c.swap-2.ensures.x_after ∙ c.swap.ensures.y_after in
+    let driver = value_after pair left (after_some 1) refl ∙ after_first c.args.self.now c.args.ctrl in
     let goes = λ (s : Pages) (q : Geometry) (l : QueuePairFields) (bytes : List ℕ) (last : World).
     SendsAll g.B.Bus.was_written g.B.Ringing.was_rung g.B.Bus.was_turned (run_of q c.args.ctrl b
-    (record l { pages = s }) bytes (request_for (limit_of b.state c.args.ctrl) c.args.entry.now c.args.bytes.now ∷ []))
+    (record l { pages = s }) bytes (request_for (limit_of b.state c.args.ctrl) c.args.entry.now given ∷ []))
     c.args.bus.now c.exchange_all.new.bus last
     × IsReadIn q.page_size last c.exchange_all.new.host.last.status c.receive.new.out in
-    let read = read_by c.args.bytes.now can (e.received (omega arith)) no_pages its e.left.ready.page_size
-    c.transfer_for-transfer.ensures.value e.paced (length c.args.out.now) c.receive.ensures in
-    subst (λ s. GoesOver c.args.self.now c.args.ctrl (goes s c.args.self.now.geometry))
-    (c.swap.ensures.x_after ∙ more_is pair)
-    (goes_over pair (goes c.swap.new.x) (ready_by pair c.requires.linked).quiet (e.paced.steps, read))
-
-pub returns-clause-entries : goal.returns-clause-entries
-returns-clause-entries g c =
-    subst HasEntryPages (sym (returns-clause-driver g c))
-    (room_stays c.args.self.now c.args.ctrl _ c.requires.room)
+    let read = read_by given can heard no_pages its e.left.ready.page_size c.transfer_for-transfer.ensures.value e.paced
+    (length c.args.out.now) c.receive.ensures in
+    record {
+      answer = command_result_is given can heard ∙ ap (λ n. command_result_of (step n).answer) cid;
+      out = rw (← cid) (received_by given can heard no_pages its e.left.ready.page_size
+          c.transfer_for-transfer.ensures.value (length c.args.out.now) c.receive.ensures);
+      room = search rules;
+      state = e.state ∙ ap (λ n. (step n).state) cid;
+      driver = rw back driver;
+      entries = rw back (subst HasEntryPages (sym driver)
+          (room_stays c.args.self.now c.args.ctrl _ c.requires.room));
+      linked = rw back (linked_after pair left c.requires.linked);
+      steps = rw (← c.swap.ensures.x_after ∙ more_is pair)
+          (goes_over pair (goes c.swap.new.x) (ready_by pair c.requires.linked).quiet (e.paced.steps, read));
+    }

@@ -1,4 +1,4 @@
-use Rattle.nv_driver.proofs.Words.{HasEntryPages, refl, renewed_pair, subst, sym}
+use Rattle.nv_driver.proofs.Words.{HasEntryPages, refl, renewed_pair, rules, subst, sym}
 use Rattle.nv_driver.proofs.AdminLaws.{HasPair, driver_after, ends_inside, linked_after, placed_at, ready_at}
 use Rattle.nv_driver.proofs.AdminLaws.{value_after}
 use Rattle.nv_driver.proofs.PassthroughLaws.{room_stays}
@@ -29,16 +29,16 @@ invariant_of-self g c =
     let pair = its_pair g (goal.at.invariant_of-self g c).After-deref_mut in
     driver_after pair (c.reset.ensures.left tt) (ends_inside pair)
 
-pub returns-clause-driver : goal.returns-clause-driver
-returns-clause-driver g c =
-    value_after (its_pair g (goal.at.returns-clause-driver g c).After-deref_mut)
-    (c.reset.ensures.left tt) renewed_pair refl
-
-pub returns-clause-entries : goal.returns-clause-entries
-returns-clause-entries g c room =
-    subst HasEntryPages (sym (returns-clause-driver g c)) (room_stays c.args.self.now c.args.ctrl _ room)
-
-pub returns-clause-linked : goal.returns-clause-linked
-returns-clause-linked g c =
-    linked_after (its_pair g (goal.at.returns-clause-linked g c).After-deref_mut)
-    (c.reset.ensures.left tt) c.requires.linked
+pub returns : goal.returns
+returns g c =
+    let pair = its_pair g (goal.at.returns g c).After-deref_mut in
+    let left = c.reset.ensures.left tt in
+    let driver = value_after pair left renewed_pair refl in
+    record {
+      ok = search rules;
+      state = search rules;
+      driver = driver;
+      entries = λ room. subst HasEntryPages (sym driver) (room_stays c.args.self.now c.args.ctrl _ room);
+      linked = linked_after pair left c.requires.linked;
+      steps = search rules;
+    }

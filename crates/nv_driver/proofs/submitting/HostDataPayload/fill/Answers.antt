@@ -1,4 +1,4 @@
-use Rattle.std.proofs.Common.{◌∙◌, ◌++◌, List, ℕ, arith, drop, length, sym, take}
+use Rattle.nv_driver.proofs.Words.{ℕ, ◌++◌, ◌∙◌, List, arith, drop, length, sym, take}
 use Rattle.nv_driver.specs.HostData.{sent_by}
 use Rattle.nv_driver.proofs.DataLaws.{data_whole}
 use Rattle.nv_driver.proofs.PaddingLaws.{length-padded, padded_part}
