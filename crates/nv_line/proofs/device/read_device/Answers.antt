@@ -23,7 +23,8 @@ pub returns-in_err-controller-clause-value : goal.returns-in_err-controller-clau
 returns-in_err-controller-clause-value c =
     let n = c.args.controllers in
     let address = c.in_ok-address.address.now in
-    let at = device_at n c.args.text.now (Some c.in_ok-address.address) _ c.strip_prefix.ensures.cases c.in_ok-address.was in
+    let whole = Some c.in_ok-address.address in
+    let at = device_at n c.args.text.now whole _ c.strip_prefix.ensures.cases c.in_ok-address.was in
     let none = sym c.controller_index.ensures.value ∙ c.in_err-controller.was in
     elim c.match-split_once.branch [
       | in-Some+in_ok-decimal-in-Some w ↦
@@ -46,7 +47,8 @@ pub returns-clause-value : goal.returns-clause-value
 returns-clause-value c =
     let n = c.args.controllers in
     let address = c.in_ok-address.address.now in
-    let at = device_at n c.args.text.now (Some c.in_ok-address.address) _ c.strip_prefix.ensures.cases c.in_ok-address.was in
+    let whole = Some c.in_ok-address.address in
+    let at = device_at n c.args.text.now whole _ c.strip_prefix.ensures.cases c.in_ok-address.was in
     let k = c.in_ok-controller.controller in
     let some = sym c.controller_index.ensures.value ∙ c.in_ok-controller.was in
     elim c.match-split_once.branch [
