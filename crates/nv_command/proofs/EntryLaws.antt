@@ -1,7 +1,8 @@
 -- An entry fits its bits if its fields do.
-use Rattle.std.proofs.Common.{rules, ◌≡◌, ℕ, ◌<◌, ◌^◌}
+use Rattle.std.proofs.Common.{rules, ◌≡◌, ℕ, ◌<◌, ◌^◌, Ok}
 use Rattle.nv_layout.specs.Sqe.{SqeFits}
-use Rattle.nv_layout.specs.declared.sqe.Sqe.{Sqe}
+use Rattle.nv_command.specs.Command.{host_data_of}
+use Rattle.nv_command.specs.Decoding.{command_of}
 use Rattle.nv_command.specs.Entry.{entry_of, entry_with, with_pointer}
 use Rattle.nv_command.specs.declared.command.Command.{Command}
 use Rattle.nv_command.specs.declared.transfer.Fields.{Fields}
@@ -20,5 +21,5 @@ pub entry_with_fits : (f : Fields) (nsid cid : ℕ) → FieldsFit f → nsid < 2
 entry_with_fits f nsid cid fits n c = search (rules, fits)
 
 -- wherever its data is stored, the entry of a command is decoded to that command
-abbrev pub IsDecoded : (Sqe → Command) → Command → Type 0
-IsDecoded decoded k = (cid p q : ℕ) → decoded (with_pointer (entry_of k cid) p q) ≡ k
+abbrev pub IsDecoded : Command → Type 0
+IsDecoded k = (cid p q : ℕ) → command_of (with_pointer (entry_of k cid) p q) (host_data_of k) ≡ Ok k

@@ -17,7 +17,7 @@ use Rattle.nv_layout.specs.Parts.{part}
 use Rattle.nv_layout.specs.Smart.{bytes_of_smart, smart_of_bytes}
 use Rattle.nv_layout.specs.declared.error_entry.ErrorEntry.{ErrorEntry}
 use Rattle.nv_command.proofs.EntryLaws.{FieldsFit, IsDecoded}
-use Rattle.nv_command.specs.Logs.{GetLogFits, IsWhole, entries_in, entry_received, get_log_command}
+use Rattle.nv_command.specs.Logs.{GetLogFits, IsWhole, entries_in, entry_received}
 use Rattle.nv_command.specs.Logs.{without_phases}
 use Rattle.nv_command.specs.Received.{first_entries, first_of_log}
 use Rattle.nv_command.specs.Form.{get_log_fields}
@@ -42,7 +42,7 @@ pub dwords_back : (lid dwords : ℕ) → 0 < dwords → dwords ≤ 2 ^ 32
 dwords_back lid dwords some h = omega arith
 
 -- the entry of a Get Log Page that fits is decoded to that command
-pub get_log_back : (q : LogQuery) → GetLogFits q → IsDecoded get_log_command (GetLog q)
+pub get_log_back : (q : LogQuery) → GetLogFits q → IsDecoded (GetLog q)
 get_log_back q fits cid prp1 prp2 = search rules
 
 -- ---- entries in bytes

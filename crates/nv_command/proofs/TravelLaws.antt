@@ -1,5 +1,5 @@
 -- The law that commands and replies are read back, in the form that other proofs cite.
-use Rattle.std.proofs.Common.{◌≡◌, ap, false, lit<, Ok, refl, true, rules}
+use Rattle.std.proofs.Common.{◌≡◌, ap, false, lit<, Ok, refl, rules, true}
 use Rattle.nv_layout.proofs.IdentifyLaws.{length-bytes_of_new_namespace}
 use Rattle.nv_layout.proofs.PartLaws.{length-part}
 use Rattle.nv_layout.proofs.RecordLaws.{length-bytes_of_ctrl_list}
@@ -58,28 +58,16 @@ commands_travel (Attachment n false ids) cid fits low =
       attachment_back false n ids fits,
       length-bytes_of_ctrl_list ids fits.list.count,
     )
-commands_travel (Format f) cid fits low = record {
-  fits = entry_with_fits _ f.nsid cid (format_fits f) fits.nsid low;
-  transfer = λ p q. refl;
-  command = λ p q. ap Ok (format_back f fits cid p q);
-  sent = refl;
-}
-commands_travel (GetFeature x) cid fits low = record {
-  fits = entry_with_fits _ x.nsid cid (get_feature_fits x fits) fits.nsid low;
-  transfer = λ p q. refl;
-  command = λ p q. ap Ok (get_feature_back x fits cid p q);
-  sent = refl;
-}
-commands_travel (SetFeature x) cid fits low = record {
-  fits = entry_with_fits _ x.nsid cid (set_feature_fits x fits) fits.nsid low;
-  transfer = λ p q. refl;
-  command = λ p q. ap Ok (set_feature_back x fits cid p q);
-  sent = refl;
-}
+commands_travel (Format f) cid fits low =
+    assumption (entry_with_fits _ f.nsid cid (format_fits f) fits.nsid low, format_back f fits cid)
+commands_travel (GetFeature x) cid fits low =
+    assumption (entry_with_fits _ x.nsid cid (get_feature_fits x fits) fits.nsid low, get_feature_back x fits cid)
+commands_travel (SetFeature x) cid fits low =
+    assumption (entry_with_fits _ x.nsid cid (set_feature_fits x fits) fits.nsid low, set_feature_back x fits cid)
 commands_travel (GetLog x) cid fits low = record {
   fits = entry_with_fits _ x.nsid cid (get_log_fits x fits) fits.nsid low;
   transfer = λ p q. ap (λ d. Ok (log_data d)) (dwords_back x.lid x.dwords fits.some fits.dwords);
-  command = λ p q. ap Ok (get_log_back x fits cid p q);
+  command = get_log_back x fits cid;
   sent = refl;
 }
 

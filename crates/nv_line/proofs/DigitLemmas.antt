@@ -25,14 +25,12 @@ all_in : (base : ℕ) (ds : List ℕ) → AllDigits base ds → list_all (λ d. 
 all_in base [] h = refl
 all_in base (d ∷ ds) h = let rest = all_in base ds h.1 in let first = h.0 in grind (arith, rest, first)
 
--- if a test of m < n and a further test are both true, then m < n and the further one is true
-first_of_two : (m n : ℕ) (b : Bool) → (nat_lt m n && b) ≡ true → (m < n) × (b ≡ true)
-first_of_two m n b h = (grind (arith, h), grind (arith, h))
-
 -- what passes the test for digits are digits of the base
 all_out : (base : ℕ) (ds : List ℕ) → list_all (λ d. nat_lt (digit_value d) base) ds ≡ true → AllDigits base ds
 all_out base [] h = tt
-all_out base (d ∷ ds) h = let p = first_of_two (digit_value d) base _ h in (p.0, all_out base ds p.1)
+all_out base (d ∷ ds) h =
+    let p = both (nat_lt (digit_value d) base) (list_all (λ e. nat_lt (digit_value e) base) ds) h in
+    let low = p.0 in (grind (arith, low), all_out base ds p.1)
 
 -- a numeral passes the test for numerals
 numeral_in : (base : ℕ) (ds : List ℕ) → IsNumeral base ds → is_numeral base ds ≡ true
@@ -44,23 +42,16 @@ numeral_out : (base : ℕ) (ds : List ℕ) → is_numeral base ds ≡ true → I
 numeral_out base [] h = absurd (cc)
 numeral_out base (d ∷ ds) h = (omega arith, all_out base (d ∷ ds) (both _ _ h).1)
 
--- a number from `least` to `most` is in the range
-within_yes : (least most n : ℕ) → least ≤ n → n ≤ most → within least most n ≡ Some n
-within_yes least most n a b = grind arith
-
--- a number above `most` isn't in the range
-within_no : (least most n : ℕ) → most < n → within least most n ≡ None
-within_no least most n a = grind arith
-
 -- a value of 64 bits that the test accepts is a number in the range
 when_numeral : (b : Bool) (v : ℕ) → b ≡ true → v ≤ most_of_64
     → Some v ≡ option_and_then (within 0 most_of_64) (if b then Some v else None)
-when_numeral b v e h = rw e (sym (within_yes 0 most_of_64 v (omega arith) h))
+when_numeral b v e h = let is : within 0 most_of_64 v ≡ Some v = grind arith in rw e (sym is)
 
 -- there is no number if the test accepts only a value above 64 bits
 no_numeral : (b : Bool) (v : ℕ) → (b ≡ true → most_of_64 < v)
     → None ≡ option_and_then (within 0 most_of_64) (if b then Some v else None)
-no_numeral true v h = sym (within_no 0 most_of_64 v (h refl))
+no_numeral true v h =
+    let large = h refl in let none : within 0 most_of_64 v ≡ None = grind (arith, large) in sym none
 no_numeral false v h = refl
 
 -- a numeral that isn't a number of 64 bits has a value above the greatest one

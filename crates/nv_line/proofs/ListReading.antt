@@ -1,5 +1,5 @@
 -- A list of identifiers that is read piece by piece.
-use Rattle.std.proofs.Common.{◌≡◌, ◌∙◌, ℕ, ◌+◌, ◌<◌, ◌≤◌, true, false, nat_le, if◌then◌else◌, ap, refl, sym, arith}
+use Rattle.std.proofs.Common.{◌≡◌, ◌∙◌, ℕ, ◌+◌, ◌<◌, ◌≤◌, ap, refl, sym, arith}
 use Rattle.std.proofs.Common.{append-nil, append_assoc, List, [], ◌∷◌, ◌++◌, Option, Some, None, drop, get_or, length}
 use Rattle.std.proofs.Common.{length-append, option_and_then, option_map}
 use Rattle.std.proofs.lemmas.List.{at_drop_all, at_drop_more}
@@ -53,8 +53,7 @@ piece_read pieces ids n p x so room turn number = record {
 listed : (text : Text) → length (slice_split is_comma text) ≤ most_cntlids
     → list_in text ≡ identifiers_in (slice_split is_comma text)
 unfolding list_in
-listed text h =
-    let room : nat_le (length (slice_split is_comma text)) most_cntlids ≡ true = grind (arith, h) in rw room refl
+listed text h = grind (arith, h)
 
 -- when all pieces were read, the identifiers are the list of the text
 pub all_read : (text : Text) (ids : List ℕ) (n : ℕ) → IsReadTo (slice_split is_comma text) ids n
@@ -70,18 +69,13 @@ all_read text ids n so end =
 -- a text with more pieces than a list has room for is no list
 pub too_many : (text : Text) → most_cntlids < length (slice_split is_comma text) → None ≡ list_in text
 unfolding list_in
-too_many text h =
-    let none : nat_le (length (slice_split is_comma text)) most_cntlids ≡ false = grind (arith, h) in rw none refl
+too_many text h = grind (arith, h)
 
 -- a text with a piece that is no identifier is no list
 either_none : (text : Text)
     → identifiers_in (slice_split is_comma text) ≡ None → None ≡ list_in text
 unfolding list_in
-either_none text none = elim (nat_le (length (slice_split is_comma text)) most_cntlids) as
-    (λ b. None ≡ (if b then identifiers_in (slice_split is_comma text) else None)) [
-      | true ↦ sym none
-      | false ↦ refl
-    ]
+either_none text none = grind (arith, none)
 
 -- a text with a piece that is no number of 16 bits is no list
 pub no_number : (text : Text) (ids : List ℕ) (n : ℕ) (p : Text)

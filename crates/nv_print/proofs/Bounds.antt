@@ -1,11 +1,21 @@
--- From the result of a call to its length.
-use Rattle.std.proofs.Common.{◌≡◌, ℕ, ◌≤◌, List, Result, Ok, Err, length, string_bytes}
-use Rattle.std.specs.Prelude.{String}
-use Rattle.std.specs.Result.{IfOk}
-use Rattle.std.specs.declared.alloc.Global.{Global}
+-- What bounds the text and the JSON of what is shown.
+use Rattle.nv_print.proofs.Words.{length-append}
+use Rattle.nv_print.proofs.Lengths.{decimal_length}
+use Rattle.nv_print.proofs.ListLengths.{entries_json_length, entries_text_length, namespace_json_length}
+use Rattle.nv_print.proofs.ListLengths.{namespace_text_length, nsids_json_length, nsids_text_length}
+use Rattle.nv_print.proofs.RecordLengths.{id_ctrl_json, id_ctrl_text, smart_json, smart_text}
+use Rattle.nv_print.proofs.SentenceLengths.{feature_set_length, feature_value_length}
 
--- a result whose string is a text of at most n bytes is a string of at most n bytes
-pub text_within : {E : Type 0} (r : Result (String Global) E) (text : List ℕ) (n : ℕ)
-    → IfOk r (λ t. string_bytes t ≡ text) → length text ≤ n → IfOk r (λ t. length (string_bytes t) ≤ n)
-text_within (Ok t) text n is h = rw is h
-text_within (Err e) text n is h = tt
+pub ruleset text_bounds = (
+  id_ctrl_text,
+  namespace_text_length,
+  nsids_text_length,
+  smart_text,
+  entries_text_length,
+  decimal_length,
+  feature_value_length,
+  feature_set_length,
+  length-append,
+)
+
+pub ruleset json_bounds = (id_ctrl_json, namespace_json_length, nsids_json_length, smart_json, entries_json_length)

@@ -1,17 +1,18 @@
 -- How long the text and the JSON of a device are.
-use Rattle.nv_print.proofs.Words.{[], ℕ, ◌%◌, ◌*◌, ◌++◌, ◌+◌, ◌/◌, ◌<◌, ◌==◌, ◌^◌, ◌∷◌, ◌≡◌, ◌≤◌, All, Bool, List}
-use Rattle.nv_print.proofs.Words.{ListedDevice, arith, common_steps, compact_text, decimal, digit_glyph, digits_onto}
-use Rattle.nv_print.proofs.Words.{escape, false, if◌then◌else◌, is_printable, length, length-append, nat_tests, node_of}
-use Rattle.nv_print.proofs.Words.{object_of, printable, quoted, refl, suc, take_while, true, zero}
+use Rattle.nv_print.proofs.Words.{[], ℕ, ◌%◌, ◌*◌, ◌++◌, ◌+◌, ◌<◌, ◌^◌, ◌∷◌, ◌≡◌, ◌≤◌, All, List}
+use Rattle.nv_print.proofs.Words.{ListedDevice, arith, common_steps, compact_text, decimal, digit_glyph}
+use Rattle.nv_print.proofs.Words.{escape, false, is_printable, length, length-append, nat_tests, node_of}
+use Rattle.nv_print.proofs.Words.{object_of, printable, quoted, refl, suc, take_while, true}
 use Rattle.std.specs.Prelude.{codes, nat_le}
 use Rattle.std.specs.Fmt.{digits}
 use Rattle.std.specs.List.{list_all}
-use Rattle.std.proofs.lemmas.List.Elements.{All-append, All-take}
+use Rattle.std.proofs.lemmas.List.Elements.{All-append, All-cons, All-nil, All-take}
 use Rattle.std.proofs.lemmas.List.Sums.{AllPass-from_list_all}
 use Rattle.json.specs.Print.{escape_byte}
 use Rattle.nv_print.specs.Devices.{device_line, fields_of_device}
 use Rattle.nv_print.proofs.JsonLengths.{object_length}
-use Rattle.nv_print.proofs.Lengths.{decimal_length, decimal_short, left_length, printable_length, right_length}
+use Rattle.nv_print.proofs.Lengths.{All-digits, decimal_length, decimal_short, left_length, printable_length}
+use Rattle.nv_print.proofs.Lengths.{right_length}
 use Rattle.nv_print.proofs.PrintableLaws.{each_printable}
 
 -- ---- its line
@@ -67,32 +68,14 @@ escape_plain (x ∷ s) h =
 quoted_plain : (s : List ℕ) → IsPlain s → length (quoted s) ≤ 2 * length s + 2
 quoted_plain s h = omega (arith, length-append (escape s) (34 ∷ []), escape_plain s h)
 
--- a text without control characters has none with another such byte before it
-cons_plain : (x : ℕ) (s : List ℕ) → 32 ≤ x → IsPlain s → IsPlain (x ∷ s)
-cons_plain x s hx h zero d l = hx
-cons_plain x s hx h (suc k) d l = h k d (omega arith)
-
 -- the character of a digit isn't a control character
-glyph_plain : (upper : Bool) (n : ℕ) → 32 ≤ digit_glyph upper n
-glyph_plain upper n = grind (arith, nat_tests)
-
--- of two texts without control characters, the chosen one has none
-either : (t : Bool) (x y : List ℕ) → IsPlain x → IsPlain y → IsPlain (if t then x else y)
-either true x y hx hy = hx
-either false x y hx hy = hy
-
--- digits before a text without control characters aren't control characters
-digits_plain : (k base : ℕ) (upper : Bool) (n : ℕ) (acc : List ℕ) → IsPlain acc
-    → IsPlain (digits_onto k base upper n acc)
-digits_plain zero base upper n acc h = h
-digits_plain (suc k) base upper n acc h =
-    let more = cons_plain (digit_glyph upper (n % base)) acc (glyph_plain upper (n % base)) h in
-    either (n / base == 0) _ _ more (digits_plain k base upper (n / base) (digit_glyph upper (n % base) ∷ acc) more)
+glyph_plain : (n : ℕ) → 32 ≤ digit_glyph false (n % 10)
+glyph_plain n = grind (arith, nat_tests)
 
 -- a decimal number has no control characters
 decimal_plain : (n : ℕ) → IsPlain (decimal n)
 unfolding digits
-decimal_plain n = digits_plain 64 10 false n [] (λ k d l. absurd (omega arith))
+decimal_plain n = All-digits (λ b. 32 ≤ b) 10 false glyph_plain 64 n [] (All-nil (λ b. 32 ≤ b))
 
 -- a text that passes the test for control characters has none
 literal_plain : (s : List ℕ) → list_all (λ b. nat_le 32 b) s ≡ true → IsPlain s
@@ -104,7 +87,7 @@ node_plain controller nsid =
     All-append (λ b. 32 ≤ b) (codes "/dev/nvme") (decimal controller ++ (codes "n" ++ decimal nsid))
     (literal_plain (codes "/dev/nvme") refl)
     (All-append (λ b. 32 ≤ b) (decimal controller) (codes "n" ++ decimal nsid) (decimal_plain controller)
-    (cons_plain 110 (decimal nsid) (omega arith) (decimal_plain nsid)))
+    (All-cons (λ b. 32 ≤ b) 110 (decimal nsid) (omega arith) (decimal_plain nsid)))
 
 -- the printable part of some bytes has no control characters
 printable_plain : (bs : List ℕ) → IsPlain (printable bs)
@@ -114,12 +97,12 @@ printable_plain bs = All-take (λ b. 32 ≤ b) _ (take_while is_printable bs) (�
     plain b p = grind (arith, nat_tests)
 
 -- the JSON of a device with such texts and numbers of 64 bits has at most 511 bytes
-pub device_json_length : (d : ListedDevice) → length d.serial ≡ 20 → length d.model ≡ 40
-    → length (node_of d.controller d.nsid) ≤ 64
+pub device_lengths : (d : ListedDevice) → length d.serial ≡ 20 → length d.model ≡ 40 → d.controller < 2 ^ 64
     → d.nsid < 2 ^ 64 → d.bytes < 2 ^ 64 → d.block_size < 2 ^ 64
     → length (compact_text (object_of (fields_of_device d))) ≤ 511
 unfolding fields_of_device escape_byte
-device_json_length d has_20 has_40 node nsid bytes block_size =
+device_lengths d has_20 has_40 controller nsid bytes block_size =
+    let node : length (node_of d.controller d.nsid) ≤ 64 = node_short d.controller d.nsid controller nsid in
     omega (
       arith,
       object_length (fields_of_device d),
@@ -132,10 +115,3 @@ device_json_length d has_20 has_40 node nsid bytes block_size =
       decimal_short d.bytes bytes,
       decimal_short d.block_size block_size,
     )
-
--- the JSON of a device with such texts and numbers has at most 511 bytes, because its node has at most 64
-pub device_lengths : (d : ListedDevice) → length d.serial ≡ 20 → length d.model ≡ 40 → d.controller < 2 ^ 64
-    → d.nsid < 2 ^ 64 → d.bytes < 2 ^ 64 → d.block_size < 2 ^ 64
-    → length (compact_text (object_of (fields_of_device d))) ≤ 511
-device_lengths d has_20 has_40 controller nsid bytes block_size =
-    device_json_length d has_20 has_40 (node_short d.controller d.nsid controller nsid) nsid bytes block_size

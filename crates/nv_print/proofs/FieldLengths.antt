@@ -10,11 +10,8 @@ use Rattle.nv_print.proofs.Lengths.{decimal_length, hexadecimal_length, left_len
 
 -- no number has more than 66 characters
 abbrev pub shape_width : Shape → ℕ
-shape_width (in_decimal n) = 66
-shape_width (in_hexadecimal n) = 66
-shape_width (wide n) = 66
-shape_width (in_six_digits n) = 66
 shape_width (as_text t) = length t
+shape_width _ = 66
 
 -- the text of a value is no longer than the width of its shape
 shape_text-width : (s : Shape) → length (shape_text s) ≤ shape_width s

@@ -1,11 +1,15 @@
 -- Hexadecimal digits, written from the last to the first.
 use Rattle.nv_print.proofs.Words.{[], ℕ, ◌%◌, ◌-◌, ◌/◌, ◌<◌, ◌==◌, ◌∷◌, ◌≡◌, ◌≤◌, Bool, IsAscii, IsAscii-append}
-use Rattle.nv_print.proofs.Words.{IsAscii-cons, IsAscii-nil, IsUtf8, IsUtf8-from_ascii, List, ap, arith, common_steps}
+use Rattle.nv_print.proofs.Words.{IsAscii-cons, IsUtf8, IsUtf8-from_ascii, List, ap, arith, common_steps}
 use Rattle.nv_print.proofs.Words.{digit_glyph, digits_onto, drop, false, hexadecimal, if◌then◌else◌, length, length-set}
 use Rattle.nv_print.proofs.Words.{nat_tests, refl, set, six_digits, suc, take, true, zero}
 use Rattle.std.specs.Prelude.{replicate}
 use Rattle.std.specs.Fmt.{digits}
 use Rattle.std.proofs.lemmas.List.{length-drop, take_all}
+use Rattle.std.proofs.lemmas.List.Elements.{All-nil}
+use Rattle.std.proofs.lemmas.Str.Ascii.{IsAscii-from_all}
+use Rattle.nv_print.proofs.Lengths.{All-digits}
+use Rattle.nv_print.proofs.Padding.{repeated_ascii}
 
 -- the character of the last hexadecimal digit of a number
 abbrev last_digit : ℕ → ℕ
@@ -60,38 +64,24 @@ prefixed room start n after within len is = grind (arith, common_steps, length-s
 glyph_ascii : (n : ℕ) → last_digit n < 128
 glyph_ascii n = grind (arith, nat_tests)
 
--- of two ASCII texts, the chosen one is ASCII
-either : (t : Bool) (x y : List ℕ) → IsAscii x → IsAscii y → IsAscii (if t then x else y)
-either true x y hx hy = hx
-either false x y hx hy = hy
-
--- hexadecimal digits before an ASCII text are ASCII
-digits_ascii : (k n : ℕ) (acc : List ℕ) → IsAscii acc → IsAscii (digits_onto k 16 false n acc)
-digits_ascii zero n acc h = h
-digits_ascii (suc k) n acc h =
-    let more = IsAscii-cons (last_digit n) acc (glyph_ascii n) h in
-    either (n / 16 == 0) _ _ more (digits_ascii k (n / 16) (last_digit n ∷ acc) more)
+-- hexadecimal digits are ASCII
+digits_ascii : (n : ℕ) → IsAscii (digits 16 false n)
+unfolding digits
+digits_ascii n = IsAscii-from_all _ (All-digits (λ b. b < 128) 16 false glyph_ascii 64 n [] (All-nil (λ b. b < 128)))
 
 -- a hexadecimal number is UTF-8
 pub hexadecimal_utf8 : (n : ℕ) → IsUtf8 (hexadecimal n)
-unfolding digits
 hexadecimal_utf8 n =
     IsUtf8-from_ascii _
     (IsAscii-cons 48 (120 ∷ digits 16 false n) (omega arith)
-    (IsAscii-cons 120 (digits 16 false n) (omega arith) (digits_ascii 64 n [] IsAscii-nil)))
-
--- zeros as characters are ASCII
-zeros_ascii : (k : ℕ) → IsAscii (replicate k 48)
-zeros_ascii zero = IsAscii-nil
-zeros_ascii (suc k) = IsAscii-cons 48 (replicate k 48) (omega arith) (zeros_ascii k)
+    (IsAscii-cons 120 (digits 16 false n) (omega arith) (digits_ascii n)))
 
 -- a number of six hexadecimal digits is UTF-8
 pub six_digits_utf8 : (n : ℕ) → IsUtf8 (six_digits n)
-unfolding digits
 six_digits_utf8 n =
     IsUtf8-from_ascii _
     (IsAscii-append (replicate (6 - length (digits 16 false n)) 48) (digits 16 false n)
-    (zeros_ascii (6 - length (digits 16 false n))) (digits_ascii 64 n [] IsAscii-nil))
+    (repeated_ascii (6 - length (digits 16 false n)) 48 (omega arith)) (digits_ascii n))
 
 -- the character of a digit below 16 is ASCII
 pub glyph_low : (n : ℕ) → n < 16 → digit_glyph false n < 128

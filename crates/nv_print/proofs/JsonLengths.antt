@@ -1,5 +1,5 @@
 -- How long the compact text of JSON is.
-use Rattle.nv_print.proofs.Words.{[], ℕ, ◌*◌, ◌++◌, ◌+◌, ◌∷◌, ◌≡◌, ◌≤◌, All, Bool, Data, Field, List, Members, arith}
+use Rattle.nv_print.proofs.Words.{[], ℕ, ◌*◌, ◌+◌, ◌∷◌, ◌≡◌, ◌≤◌, All, Bool, Data, Field, List, Members, arith}
 use Rattle.nv_print.proofs.Words.{array, common_steps, compact_text, false, items_of, length, length-append, map}
 use Rattle.nv_print.proofs.Words.{member, no_members, object, object_of, put, quoted, shape_data, suc, true}
 use Rattle.std.proofs.Common.{Equal, Greater, Less, Ordering, nat_cmp}
@@ -70,12 +70,7 @@ items_length data_of most later [] each = omega arith
 items_length data_of most later (x ∷ xs) each =
     let first : length (compact_text (data_of x)) ≤ most = each 0 x (omega arith) in
     let others = items_length data_of most true xs (λ k d h. each (suc k) d (omega arith)) in
-    omega (
-      arith,
-      comma_length later,
-      length-append (comma_if later) (compact_text (data_of x) ++ items_text true (items_of (map data_of xs))),
-      length-append (compact_text (data_of x)) (items_text true (items_of (map data_of xs))),
-    )
+    omega (arith, comma_length later, length-append {A = ℕ})
 
 -- an object of one such list has at most most + 1 bytes for each element, and 8 and six times its key more
 pub list_object_length : {A : Type 0} (key : List ℕ) (data_of : A → Data) (most : ℕ) (xs : List A)

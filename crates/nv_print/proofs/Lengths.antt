@@ -1,17 +1,27 @@
 -- How long texts are.
-use Rattle.nv_print.proofs.Words.{[], ℕ, ◌%◌, ◌*◌, ◌+◌, ◌-◌, ◌/◌, ◌<◌, ◌==◌, ◌^◌, ◌∙◌, ◌∷◌, ◌≡◌, ◌≤◌, Bool, List, ap}
+use Rattle.nv_print.proofs.Words.{[], ℕ, ◌%◌, ◌*◌, ◌+◌, ◌-◌, ◌/◌, ◌<◌, ◌==◌, ◌^◌, ◌∙◌, ◌∷◌, ◌≡◌, ◌≤◌, All, Bool}
+use Rattle.nv_print.proofs.Words.{List, ap}
 use Rattle.nv_print.proofs.Words.{arith, common_steps, decimal, digit_glyph, digits_onto, escape, false, hexadecimal}
 use Rattle.nv_print.proofs.Words.{if◌then◌else◌, left, length, length-append, length-take, nat_tests, printable, quoted}
 use Rattle.nv_print.proofs.Words.{right, six_digits, suc, true, zero}
 use Rattle.std.specs.Fmt.{digits}
 use Rattle.std.proofs.lemmas.Fmt.{length-decimal-le}
 use Rattle.std.proofs.lemmas.List.{length-replicate}
+use Rattle.std.proofs.lemmas.List.Elements.{All-cons}
 use Rattle.json.specs.Print.{escape_byte}
 
--- of two texts of at most n bytes, the chosen one has at most n bytes
-either : (t : Bool) (x y : List ℕ) (n : ℕ) → length x ≤ n → length y ≤ n → length (if t then x else y) ≤ n
-either true x y n hx hy = hx
-either false x y n hx hy = hy
+-- what holds of two texts holds of the chosen one
+either : (P : List ℕ → Type 0) (t : Bool) (x y : List ℕ) → P x → P y → P (if t then x else y)
+either P true x y hx hy = hx
+either P false x y hx hy = hy
+
+-- what holds of the character of each digit, and of each byte of a text, holds of each byte of digits before the text
+module _ (P : ℕ → Type 0) (base : ℕ) (upper : Bool) (each : (n : ℕ) → P (digit_glyph upper (n % base))) where
+  pub All-digits : (k n : ℕ) (acc : List ℕ) → All P acc → All P (digits_onto k base upper n acc)
+  All-digits zero n acc h = h
+  All-digits (suc k) n acc h =
+      let more = All-cons P (digit_glyph upper (n % base)) acc (each n) h in
+      either (All P) (n / base == 0) _ _ more (All-digits k (n / base) (digit_glyph upper (n % base) ∷ acc) more)
 
 -- at most k digits are written before a text
 digits_onto-length : (k base : ℕ) (upper : Bool) (n : ℕ) (acc : List ℕ)
@@ -19,7 +29,7 @@ digits_onto-length : (k base : ℕ) (upper : Bool) (n : ℕ) (acc : List ℕ)
 digits_onto-length zero base upper n acc = omega arith
 digits_onto-length (suc k) base upper n acc =
     let more = digits_onto-length k base upper (n / base) (digit_glyph upper (n % base) ∷ acc) in
-    either (n / base == 0) _ _ (suc k + length acc) (omega arith) (omega arith)
+    either (λ t. length t ≤ suc k + length acc) (n / base == 0) _ _ (omega arith) (omega arith)
 
 -- a number in any base has at most 64 digits
 pub digits_length : (base : ℕ) (upper : Bool) (n : ℕ) → length (digits base upper n) ≤ 64
@@ -80,7 +90,7 @@ hexadecimal_onto zero (suc fuel) n acc h =
 hexadecimal_onto (suc k) (suc fuel) n acc h =
     let below : n / 16 < 16 ^ suc k = omega arith in
     let more = hexadecimal_onto k fuel (n / 16) (digit_glyph false (n % 16) ∷ acc) below in
-    either (n / 16 == 0) _ _ (suc (suc k) + length acc) (omega arith) (omega arith)
+    either (λ t. length t ≤ suc (suc k) + length acc) (n / 16 == 0) _ _ (omega arith) (omega arith)
 
 -- a number of 64 bits in hexadecimal has at most 18 bytes
 pub hexadecimal_short : (n : ℕ) → n < 2 ^ 64 → length (hexadecimal n) ≤ 18

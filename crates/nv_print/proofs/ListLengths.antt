@@ -1,10 +1,10 @@
 -- How long the texts and the JSON of lists are.
-use Rattle.nv_print.proofs.Words.{[], ℕ, ◌%◌, ◌*◌, ◌++◌, ◌+◌, ◌<◌, ◌==◌, ◌^◌, ◌∷◌, ◌≤◌, All, Bool, Data, ErrorEntry}
+use Rattle.nv_print.proofs.Words.{[], ℕ, ◌%◌, ◌*◌, ◌++◌, ◌+◌, ◌<◌, ◌^◌, ◌∷◌, ◌≤◌, All, Data, ErrorEntry}
 use Rattle.nv_print.proofs.Words.{IdNs, Lbaf, List, arith, array, common_steps, compact_text, entries_text, entry_text}
 use Rattle.nv_print.proofs.Words.{false, field, field_line, fields_text, filter, formats_of, get_or, holds_error}
-use Rattle.nv_print.proofs.Words.{if◌then◌else◌, in_decimal, items_of, lbaf_line, length, length-append, length-take}
-use Rattle.nv_print.proofs.Words.{lines_of, map, no_members, nsid_line, nsids_text, number, object_of, suc, true}
-use Rattle.nv_print.proofs.Words.{unsigned}
+use Rattle.nv_print.proofs.Words.{in_decimal, items_of, lbaf_line, length, length-append, length-take}
+use Rattle.nv_print.proofs.Words.{lines_of, map, no_members, nsid_line, nsids_text, number, object_of, suc}
+use Rattle.nv_print.proofs.Words.{nat_tests, unsigned}
 use Rattle.std.proofs.Common.{min}
 use Rattle.std.specs.Prelude.{⊤, codes}
 use Rattle.nv_layout.specs.Limits.{most_nsids}
@@ -55,11 +55,7 @@ nsids_json_length nsids few fit =
 
 -- the mark of the format in use has at most nine bytes
 mark_length : (in_use i : ℕ) → length (mark_of in_use i) ≤ 9
-mark_length in_use i = at_test (in_use == i)
-  where
-    at_test : (b : Bool) → length (if b then codes " (in use)" else []) ≤ 9
-    at_test true = omega arith
-    at_test false = omega arith
+mark_length in_use i = grind (arith, nat_tests)
 
 -- the line of a format has at most 400 bytes
 lbaf_line_length : (in_use i : ℕ) (f : Lbaf) → length (lbaf_line in_use i f) ≤ 400
@@ -99,30 +95,27 @@ namespace_json_length r =
 
 -- ---- entries of an error log
 
--- the text of an entry has at most 1,024 bytes if the entry holds an error, and none otherwise
-entry_length : (i : ℕ) (e : ErrorEntry) (b : Bool)
-    → length (if b then field_line (field (codes "entry") (in_decimal i)) ++ fields_text (fields_of_entry e) else [])
-    ≤ (if b then 1024 else 0)
-entry_length i e true = omega (
+-- the text of an entry that holds an error has at most 1,024 bytes
+entry_length : (i : ℕ) (e : ErrorEntry)
+    → length (field_line (field (codes "entry") (in_decimal i)) ++ fields_text (fields_of_entry e)) ≤ 1024
+entry_length i e = omega (
   arith,
   field_line-length (field (codes "entry") (in_decimal i)),
   entry_text_length e,
   length-append (field_line (field (codes "entry") (in_decimal i))) (fields_text (fields_of_entry e)),
 )
-entry_length i e false = omega arith
+
+-- an entry before others adds at most 1,024 bytes if it holds an error, and none otherwise
+one_entry : (i : ℕ) (e : ErrorEntry) (es : List ErrorEntry)
+    → length (lines_of entry_text (i + 1) es) ≤ 1024 * length (filter holds_error es)
+    → length (lines_of entry_text i (e ∷ es)) ≤ 1024 * length (filter holds_error (e ∷ es))
+one_entry i e es others = grind (arith, common_steps, entry_length, length-append)
 
 -- the text of entries has at most 1,024 bytes for each one that holds an error
 entries_length : (i : ℕ) (es : List ErrorEntry)
     → length (lines_of entry_text i es) ≤ 1024 * length (filter holds_error es)
 entries_length i [] = omega arith
-entries_length i (e ∷ es) = at_test (holds_error e) (entry_length i e (holds_error e)) (entries_length (i + 1) es)
-  where
-    at_test : (b : Bool) → length (entry_text i e) ≤ (if b then 1024 else 0)
-        → length (lines_of entry_text (i + 1) es) ≤ 1024 * length (filter holds_error es)
-        → length (lines_of entry_text i (e ∷ es))
-        ≤ 1024 * length (if b then e ∷ filter holds_error es else filter holds_error es)
-    at_test true first others = omega (arith, length-append (entry_text i e) (lines_of entry_text (i + 1) es))
-    at_test false first others = omega (arith, length-append (entry_text i e) (lines_of entry_text (i + 1) es))
+entries_length i (e ∷ es) = one_entry i e es (entries_length (i + 1) es)
 
 -- the text of an error log has at most 1,024 bytes for each entry that holds an error
 pub entries_text_length : (es : List ErrorEntry) → length (entries_text es) ≤ 1024 * length (filter holds_error es)

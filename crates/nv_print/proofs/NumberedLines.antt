@@ -1,6 +1,6 @@
 -- Lines, one after another.
 use Rattle.nv_print.proofs.Words.{[], ℕ, ◌++◌, ◌+◌, ◌<◌, ◌∙◌, ◌∷◌, ◌≡◌, List, ap, append-nil, append_assoc, arith}
-use Rattle.nv_print.proofs.Words.{common_steps, get_or, length, lines_of, suc, sym, take, zero}
+use Rattle.nv_print.proofs.Words.{common_steps, get_or, length, lines_of, suc, take, zero}
 
 module _ {A : Type 0} (line : ℕ → A → List ℕ) where
   -- the lines of i + 1 elements from number k on are the lines of the first i and the line of element i
@@ -10,17 +10,17 @@ module _ {A : Type 0} (line : ℕ → A → List ℕ) where
   next_from k (x ∷ xs) zero d h = append-nil (line k x) ∙ (let at : k ≡ k + 0 = omega arith in ap (λ n. line n x) at)
   next_from k (x ∷ xs) (suc i) d h =
       let at : (k + 1) + i ≡ k + suc i = omega arith in
-      ap (λ t. line k x ++ t)
-      (next_from (k + 1) xs i d (omega arith)
-      ∙ ap (λ n. lines_of line (k + 1) (take i xs) ++ line n (get_or xs i d)) at)
-      ∙ sym (append_assoc (line k x) (lines_of line (k + 1) (take i xs)) (line (k + suc i) (get_or xs i d)))
+      let later = next_from (k + 1) xs i d (omega arith) in
+      grind (arith, common_steps)
 
   -- the lines of the first i + 1 elements are the lines of the first i and the line of element i
-  pub lines_of_next : (xs : List A) (i : ℕ) (d : A) → i < length xs
+  lines_of_next : (xs : List A) (i : ℕ) (d : A) → i < length xs
       → lines_of line 0 (take (i + 1) xs) ≡ lines_of line 0 (take i xs) ++ line i (get_or xs i d)
   lines_of_next xs i d h = grind (arith, common_steps, next_from)
 
-  -- a text with the lines of i elements after it, and the line of element i, has the lines of i + 1 elements after it
-  pub text_and_line_next : (text : List ℕ) (xs : List A) (i : ℕ) (d : A) → i < length xs
-      → (text ++ lines_of line 0 (take i xs)) ++ line i (get_or xs i d) ≡ text ++ lines_of line 0 (take (i + 1) xs)
-  text_and_line_next text xs i d h = grind (arith, common_steps, append_assoc, lines_of_next)
+  -- if the line of element i was added to a text with the lines of i elements after it, those of i + 1 are after it
+  pub next_line : (text before after : List ℕ) (xs : List A) (i : ℕ) (x d : A) → i < length xs → x ≡ get_or xs i d
+      → before ≡ text ++ lines_of line 0 (take i xs) → after ≡ before ++ line i x
+      → after ≡ text ++ lines_of line 0 (take (i + 1) xs)
+  next_line text before after xs i x d h e these this =
+      cc (append_assoc text (lines_of line 0 (take i xs)) (line i (get_or xs i d)), lines_of_next xs i d h)

@@ -1,23 +1,25 @@
 -- Spaces in columns, and the text after a key.
-use Rattle.nv_print.proofs.Words.{[], ℕ, ◌++◌, ◌+◌, ◌-◌, ◌∙◌, ◌∷◌, ◌≡◌, ◌≤◌, IsAscii, IsAscii-append, IsAscii-cons}
+use Rattle.nv_print.proofs.Words.{[], ℕ, ◌++◌, ◌+◌, ◌-◌, ◌<◌, ◌∙◌, ◌∷◌, ◌≡◌, ◌≤◌, IsAscii, IsAscii-append, IsAscii-cons}
 use Rattle.nv_print.proofs.Words.{IsAscii-nil, List, ap, append_assoc, arith, common_steps, drop, left, length}
 use Rattle.nv_print.proofs.Words.{length-append, refl, right, suc, take, zero}
 use Rattle.std.specs.Prelude.{codes, replicate}
 use Rattle.std.specs.Str.{IsCharBoundary}
 use Rattle.std.proofs.lemmas.List.{drop-append-le, drop-replicate, take-replicate}
+use Rattle.std.proofs.lemmas.List.Elements.{All-replicate}
 use Rattle.std.proofs.lemmas.Str.{IsCharBoundary-from_ascii}
+use Rattle.std.proofs.lemmas.Str.Ascii.{IsAscii-from_all}
 
 -- ---- spaces
 
--- spaces are ASCII
-spaces_ascii : (n : ℕ) → IsAscii (replicate n 32)
-spaces_ascii zero = IsAscii-nil
-spaces_ascii (suc n) = IsAscii-cons 32 (replicate n 32) (omega arith) (spaces_ascii n)
+-- a character of ASCII, many times, is ASCII
+pub repeated_ascii : (n b : ℕ) → b < 128 → IsAscii (replicate n b)
+repeated_ascii n b low = IsAscii-from_all (replicate n b) (All-replicate (λ b. b < 128) n b low)
 
 -- many spaces can be cut at each of their places
 pub spaces_cut : (n : ℕ) → n ≤ 41 → IsCharBoundary (codes "                                         ") n
 spaces_cut n within =
-    IsCharBoundary-from_ascii (codes "                                         ") n (spaces_ascii 41) within
+    IsCharBoundary-from_ascii (codes "                                         ") n (repeated_ascii 41 32 (omega arith))
+    within
 
 -- the first n of many spaces are n spaces
 pub spaces_are : (n : ℕ) → n ≤ 41 → take n (codes "                                         ") ≡ replicate n 32
@@ -50,7 +52,7 @@ column_more text shown width = grind (arith, common_steps, append_assoc)
 -- the widest gap can be cut at each of its places
 pub gap_cut : (n : ℕ) → IsCharBoundary (codes "                    : ") (20 - n)
 gap_cut n =
-    grind (arith, common_steps, IsAscii-cons, IsAscii-nil, IsAscii-append, spaces_ascii, IsCharBoundary-from_ascii)
+    grind (arith, common_steps, IsAscii-cons, IsAscii-nil, IsAscii-append, repeated_ascii, IsCharBoundary-from_ascii)
 
 -- what is left of the gap after a key of k characters is the spaces up to 20 and a colon
 pub gap_is : (room k : ℕ) → room ≡ 20 - k

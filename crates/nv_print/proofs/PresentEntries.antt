@@ -1,6 +1,6 @@
 -- The text of a log is that of the entries that it has, because those after them hold no error.
-use Rattle.nv_print.proofs.Words.{[], ℕ, ◌++◌, ◌+◌, ◌-◌, ◌∙◌, ◌∷◌, ◌≡◌, ErrorEntry, List, ap, entries_text, entry_text}
-use Rattle.nv_print.proofs.Words.{error_tokens, flat_map, length, lines_of, no_entry, refl, suc, sym, take, zero}
+use Rattle.nv_print.proofs.Words.{[], ℕ, ◌++◌, ◌+◌, ◌-◌, ◌∷◌, ◌≡◌, ErrorEntry, List, ap, entries_text, entry_text}
+use Rattle.nv_print.proofs.Words.{error_tokens, flat_map, length, lines_of, no_entry, refl, suc, take, zero}
 use Rattle.std.proofs.Common.{replicate}
 
 -- entries without an error after the others add no lines
@@ -22,10 +22,8 @@ module _ (es : List ErrorEntry) (n : ℕ) (past : es ≡ take n es ++ replicate 
     (i : ℕ) (all : i ≡ n) where
   -- the first n entries have the same text as all of them
   pub text_present : entries_text (take i es) ≡ entries_text es
-  text_present = ap (λ k. entries_text (take k es)) all
-      ∙ sym (ap entries_text past ∙ lines_past 0 (take n es) (length es - n))
+  text_present = cc (lines_past 0 (take n es) (length es - n))
 
   -- the first n entries have the same tokens as all of them
   pub tokens_present : flat_map error_tokens (take i es) ≡ flat_map error_tokens es
-  tokens_present = ap (λ k. flat_map error_tokens (take k es)) all
-      ∙ sym (ap (λ xs. flat_map error_tokens xs) past ∙ tokens_past (take n es) (length es - n))
+  tokens_present = cc (tokens_past (take n es) (length es - n))

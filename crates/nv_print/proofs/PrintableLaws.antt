@@ -1,8 +1,8 @@
 -- The part of a text that is shown.
-use Rattle.std.proofs.Common.{◌≡◌, ◌∙◌, ◌⊎◌, inl, inr, refl, ℕ, zero, suc, ◌+◌, ◌-◌, ◌<◌, ap, arith, Bool, false, true}
+use Rattle.std.proofs.Common.{◌≡◌, ◌∙◌, ◌⊎◌, inr, refl, ℕ, zero, suc, ◌+◌, ◌-◌, ◌<◌, ap, arith, Bool, false, true}
 use Rattle.std.proofs.Common.{List, [], ◌∷◌, ◌++◌, append-nil, append_assoc, length, length-append, take, get_or, sym}
 use Rattle.std.proofs.lemmas.Grind.{common_steps}
-use Rattle.std.specs.Prelude.{◌==◌, cond, not, replicate}
+use Rattle.std.specs.Prelude.{◌==◌, not, replicate}
 use Rattle.std.specs.Char.{is_ascii_whitespace}
 use Rattle.std.specs.List.{suffix_len, take_while}
 use Rattle.std.specs.Str.{IsAscii, IsTrimAsciiEnd, IsUtf8}
@@ -50,21 +50,12 @@ printable_is_utf8 bs r is =
 
 -- ---- spaces at the end
 
--- two texts that are equal but for a space at the end are so with one more character before them, or both empty
-one_more : (b : Bool) (y : ℕ) (text longer : List ℕ) → (longer ≡ text) ⊎ (longer ≡ text ++ 32 ∷ [])
-    → (cond b (y ∷ longer) [] ≡ cond b (y ∷ text) []) ⊎ (cond b (y ∷ longer) [] ≡ cond b (y ∷ text) [] ++ 32 ∷ [])
-one_more true y text longer (inl same) = inl (ap (λ t. y ∷ t) same)
-one_more true y text longer (inr more) = inr (ap (λ t. y ∷ t) more)
-one_more false y text longer h = inl refl
-
 -- with one more space at the end, the printable beginning is the same or has that space more
 space_more : (bs : List ℕ)
     → (take_while is_printable (bs ++ 32 ∷ []) ≡ take_while is_printable bs)
     ⊎ (take_while is_printable (bs ++ 32 ∷ []) ≡ take_while is_printable bs ++ 32 ∷ [])
 space_more [] = inr refl
-space_more (y ∷ bs) =
-    rw (take_while-cons is_printable y (bs ++ 32 ∷ []), take_while-cons is_printable y bs)
-    (one_more (is_printable y) y (take_while is_printable bs) (take_while is_printable (bs ++ 32 ∷ [])) (space_more bs))
+space_more (y ∷ bs) = grind (arith, common_steps, take_while-cons is_printable y, space_more bs)
 
 -- a space at the end is cut off
 space_cut : (text : List ℕ) → without_trailing_spaces (text ++ 32 ∷ []) ≡ without_trailing_spaces text
@@ -86,13 +77,9 @@ printable_padded (suc k) bs =
 pub padding_next : (bytes rest before last : List ℕ) (m n : ℕ) → rest ≡ before ++ last → last ≡ replicate 8 32
     → bytes ≡ rest ++ replicate m 32 → n ≡ 8 + m → bytes ≡ before ++ replicate n 32
 padding_next bytes rest before last m n split spaces old more =
-    old
-    ∙ ap (λ t. t ++ replicate m 32) (split ∙ ap (λ t. before ++ t) spaces)
-    ∙ append_assoc before (replicate 8 32) (replicate m 32)
-    ∙ ap (λ t. before ++ t) (replicate-append-replicate 8 m 32)
-    ∙ ap (λ k. before ++ replicate k 32) (sym more)
+    let all = replicate-append-replicate {A = ℕ} 8 m 32 in
+    cc (append_assoc before (replicate 8 32) (replicate m 32), all)
 
 -- if false is the negation of a truth value, it is true
 pub equal : (same : Bool) → false ≡ not same → true ≡ same
-equal true e = refl
-equal false e = sym e
+equal same e = grind (arith, nat_tests)

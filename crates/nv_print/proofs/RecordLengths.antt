@@ -11,28 +11,12 @@ use Rattle.nv_print.proofs.Lengths.{printable_length}
 -- the text of a controller's Identify data has at most 5,000 bytes more than its texts
 pub id_ctrl_text : (c : IdCtrl) → length (fields_text (fields_of_id_ctrl c)) ≤ 5000 + texts_length c
 unfolding fields_of_id_ctrl
-id_ctrl_text c =
-    omega (
-      arith,
-      fields_text-length (fields_of_id_ctrl c),
-      printable_length c.sn,
-      printable_length c.mn,
-      printable_length c.fr,
-      printable_length c.subnqn,
-    )
+id_ctrl_text c = grind (arith, fields_text-length (fields_of_id_ctrl c), printable_length)
 
 -- the JSON of a controller's Identify data has at most 5,000 bytes more than six times the length of its texts
 pub id_ctrl_json : (c : IdCtrl) → length (compact_text (object_of (fields_of_id_ctrl c))) ≤ 5000 + 6 * texts_length c
 unfolding fields_of_id_ctrl
-id_ctrl_json c =
-    omega (
-      arith,
-      object_width (fields_of_id_ctrl c),
-      printable_length c.sn,
-      printable_length c.mn,
-      printable_length c.fr,
-      printable_length c.subnqn,
-    )
+id_ctrl_json c = grind (arith, object_width (fields_of_id_ctrl c), printable_length)
 
 -- the text of a health log has at most 5,000 bytes
 pub smart_text : (s : Smart) → length (fields_text (fields_of_smart s)) ≤ 5000

@@ -3,7 +3,7 @@ use Rattle.nv_print.proofs.Words.{[], ℕ, ◌++◌, ◌+◌, ◌<◌, ◌∙◌
 use Rattle.nv_print.proofs.Words.{ListedDevice, Members, Token, ap, append_assoc, arith, array, as_text, before}
 use Rattle.nv_print.proofs.Words.{common_steps, data_tokens, error_tokens, false, field, field_tokens, filter, flat_map}
 use Rattle.nv_print.proofs.Words.{get_or, holds_error, if◌then◌else◌, in_decimal, items_of, length, map, member}
-use Rattle.nv_print.proofs.Words.{no_members, node_of, object, object_of, printable, put, refl, subst, sym, take, true}
+use Rattle.nv_print.proofs.Words.{no_members, node_of, object, object_of, printable, refl, sym, take, true}
 use Rattle.std.specs.Prelude.{codes}
 use Rattle.std.proofs.lemmas.List.Folds.{flat_map-map}
 use Rattle.json.specs.Tree.{items_tokens, members_tokens}
@@ -19,8 +19,7 @@ use Rattle.json.specs.Token as json
 -- adding the tokens ts and then us adds ts ++ us
 pub both_added : (ts us : List Token) (old mid new : Written) → Adds ts old mid → Adds us mid new
     → Adds (ts ++ us) old new
-both_added ts us old mid new first second =
-    (second.0 ∙ first.0, second.1 ∙ ap (λ all. all ++ us) first.1 ∙ append_assoc old.tokens ts us)
+both_added ts us old mid new first second = grind (arith, common_steps)
 
 -- adding the tokens of the first i elements and then of element i adds the tokens of the first i + 1
 pub next_added : {A : Type 0} (f : A → List Token) (xs : List A) (i : ℕ) (d : A) (old mid new : Written) → i < length xs
@@ -35,21 +34,12 @@ abbrev tokens_of_members : Members → List Token
 tokens_of_members ms = members_tokens (members_outline ms)
 
 -- the tokens of fields and then of other members are the tokens of the members with the fields before them
-fields_before : (fields : List Field) (ms : Members)
+pub fields_before : (fields : List Field) (ms : Members)
     → flat_map field_tokens fields ++ tokens_of_members ms ≡ tokens_of_members (before fields ms)
 fields_before [] ms = refl
 fields_before (f ∷ fields) ms =
     append_assoc (field_tokens f) (flat_map field_tokens fields) (tokens_of_members ms)
     ∙ ap (λ ts. field_tokens f ++ ts) (fields_before fields ms)
-
--- an opening bracket, the tokens of fields and a closing bracket are the tokens of their object
-pub object_added : (fields : List Field) (old first last new : Written) → Adds (json.begin_object ∷ []) old first
-    → Adds (flat_map field_tokens fields) first last → Adds (json.end_object ∷ []) last new
-    → Adds (data_tokens (object (before fields no_members))) old new
-object_added fields old first last new begun added ended =
-    subst (λ ts. Adds (json.begin_object ∷ ts) old new) (fields_before fields no_members)
-    (both_added (json.begin_object ∷ []) _ old first new begun
-    (both_added (flat_map field_tokens fields) (json.end_object ∷ []) first last new added ended))
 
 -- the tokens of a device's fields, in the order of their keys and in brackets, are the tokens of its object
 pub device_added : (d : ListedDevice) (old opened a b c e f g new : Written) → Adds (json.begin_object ∷ []) old opened
@@ -79,6 +69,12 @@ list_before : {A : Type 0} (data_of : A → Data) (xs : List A) (more : List Tok
     ≡ items_tokens (items_outline (items_of (map data_of xs))) ++ more
 list_before data_of xs more = grind (arith, common_steps, flat_map-map, append_assoc, items)
 
+-- the tokens of a list's elements and the brackets that end it and its object are the tokens of its items and a bracket
+pub list_ends : {A : Type 0} (data_of : A → Data) (xs : List A)
+    → flat_map (λ x. data_tokens (data_of x)) xs ++ json.end_array ∷ (json.end_object ∷ [])
+    ≡ items_tokens (items_outline (items_of (map data_of xs))) ++ json.end_object ∷ []
+list_ends data_of xs = list_before data_of xs (json.end_object ∷ [])
+
 -- a key, the tokens of a list in brackets and more tokens are the tokens of that member and then more
 member_added : {A : Type 0} (key : List ℕ) (data_of : A → Data) (xs : List A) (more : List Token)
     (old named first last after new : Written) → Adds (json.key key ∷ []) old named
@@ -88,40 +84,23 @@ member_added : {A : Type 0} (key : List ℕ) (data_of : A → Data) (xs : List A
 member_added key data_of xs more old named first last after new name begun added ended others =
     grind (arith, common_steps, list_before, both_added)
 
--- a key and the tokens of a list, all in brackets, are the tokens of an object of that list
-pub list_added : {A : Type 0} (key : List ℕ) (data_of : A → Data) (xs : List A)
-    (old opened named first last after new : Written) → Adds (json.begin_object ∷ []) old opened
-    → Adds (json.key key ∷ []) opened named → Adds (json.begin_array ∷ []) named first
-    → Adds (flat_map (λ x. data_tokens (data_of x)) xs) first last
-    → Adds (json.end_array ∷ []) last after → Adds (json.end_object ∷ []) after new
-    → Adds (data_tokens (object (put key (array (items_of (map data_of xs))) no_members))) old new
-list_added key data_of xs old opened named first last after new begun name list_begun added list_ended ended =
-    both_added (json.begin_object ∷ []) _ old opened new begun
-    (member_added key data_of xs (json.end_object ∷ []) opened named first last after new name list_begun added
-    list_ended ended)
-
 -- an object of fields and of a list among them
 pub among_added : {A : Type 0} (key : List ℕ) (data_of : A → Data) (xs : List A) (some others : List Field)
-    (old opened start named first last after end new : Written) → Adds (json.begin_object ∷ []) old opened
-    → Adds (flat_map field_tokens some) opened start
+    (ms : Members) (old opened start named first last after end new : Written)
+    → ms ≡ before some (member key (array (items_of (map data_of xs))) (before others no_members))
+    → Adds (json.begin_object ∷ []) old opened → Adds (flat_map field_tokens some) opened start
     → Adds (json.key key ∷ []) start named → Adds (json.begin_array ∷ []) named first
-    → Adds (flat_map (λ x. data_tokens (data_of x)) xs) first last
-    → Adds (json.end_array ∷ []) last after → Adds (flat_map field_tokens others) after end
-    → Adds (json.end_object ∷ []) end new
-    → Adds (data_tokens (object (before some
-    (member key (array (items_of (map data_of xs))) (before others no_members))))) old new
-among_added key data_of xs some others old opened start named first last after end new begun some_added name list_begun
-    added list_ended others_added ended =
-    let rest =
-    subst (λ ts. Adds ts after new) (fields_before others no_members)
-    (both_added (flat_map field_tokens others) (json.end_object ∷ []) after end new others_added ended) in
-    let from_list =
+    → Adds (flat_map (λ x. data_tokens (data_of x)) xs) first last → Adds (json.end_array ∷ []) last after
+    → Adds (flat_map field_tokens others) after end → Adds (json.end_object ∷ []) end new
+    → Adds (data_tokens (object ms)) old new
+among_added key data_of xs some others ms old opened start named first last after end new is begun some_added name
+    list_begun added list_ended others_added ended =
+    let rest = both_added (flat_map field_tokens others) (json.end_object ∷ []) after end new others_added ended in
+    let list =
     member_added key data_of xs (tokens_of_members (before others no_members)) start named first last after new name
-    list_begun added list_ended rest in
-    both_added (json.begin_object ∷ []) _ old opened new begun
-    (subst (λ ts. Adds ts opened new)
-    (fields_before some (member key (array (items_of (map data_of xs))) (before others no_members)))
-    (both_added (flat_map field_tokens some) _ opened start new some_added from_list))
+    list_begun added list_ended (rw (fields_before others no_members) at rest) in
+    let members : Members = member key (array (items_of (map data_of xs))) (before others no_members) in
+    rw is (grind (arith, common_steps, both_added, list, fields_before some members))
 
 -- ---- entries of an error log
 

@@ -89,6 +89,7 @@ impl Shown<'_> {
 }
 
 /// Returns the text of what a line shows, as a string.
+#[tactic(auto, using(crate::proofs::Bounds::text_bounds))]
 fn string_of(alloc: Global, shown: &Shown) -> Result<String, AllocError>
     ensures exact { IfOk result (λ t. string_bytes t ≡ text_of shown.now) }
     ensures bound { IfOk result (λ t. length (string_bytes t) ≤ text_limit shown.now) }
@@ -131,6 +132,7 @@ pub fn text(alloc: Global, shown: &Shown) -> Result<Vec<u8>, Memory>
 }
 
 /// Writes what a line shows as JSON, or null if it has no JSON form.
+#[tactic(auto, using(crate::proofs::Bounds::json_bounds))]
 fn write(alloc: Global, shown: &Shown, out: &mut Writer) -> Result<(), AllocError>
     ensures exact { OnOk result (Adds (data_tokens (data_of shown.now)) out.old out.new) }
     ensures bound { OnOk result

@@ -1,13 +1,13 @@
 -- Laws of tables, of places, and of the bytes that are written to them.
 use Rattle.std.proofs.Common.{◌≡◌, ◌≢◌, ◌∙◌, ◌⊎◌, ℕ, zero, suc, ◌+◌, ◌-◌, ◌<◌, ◌≤◌, List, [], ◌∷◌, ◌++◌, append_assoc}
-use Rattle.std.proofs.Common.{append-nil, ap, arith, drop, get_or, inl, inr, length, length-append, length-drop}
+use Rattle.std.proofs.Common.{append-nil, ap, arith, drop, get_or, length, length-append, length-drop}
 use Rattle.std.proofs.Common.{length-take, min, refl, set, subst, sym}
 use Rattle.std.proofs.Math.ListN.{length-set}
-use Rattle.std.proofs.lemmas.List.{get_or-append_right, get_or-drop, get_or-map, get_or-set_other, get_or-set_same}
-use Rattle.std.proofs.lemmas.List.{get_or-take, get_or_append_left, get_or_push, length-map}
+use Rattle.std.proofs.lemmas.List.{get_or-drop, get_or-map, get_or-set_other, get_or-set_same}
+use Rattle.std.proofs.lemmas.List.{get_or-take, length-map}
 use Rattle.nv_host.specs.Bytes.{bytes_at}
 use Rattle.nv_prp.specs.Place.{LieIn, places, read_at, span_places, written_at}
-use Rattle.nv_prp.proofs.Words.{All, AreDistinct, cases_lt, common_steps, same_number_lists, Span, table}
+use Rattle.nv_prp.proofs.Words.{All, AreDistinct, common_steps, same_number_lists, Span, table}
 
 -- ---- tables
 
@@ -21,15 +21,7 @@ length-table (suc n) f = length-append (table n f) (f n ∷ []) ∙ ap (λ k. k 
 pub get_or-table : {X : Type 0} (n : ℕ) (f : ℕ → X) (k : ℕ) (d : X) → k < n
     → get_or (table n f) k d ≡ f k
 get_or-table zero f k d h = absurd (omega arith)
-get_or-table (suc n) f k d h =
-    let size = length-table n f in
-    elim (cases_lt k n) [
-      | inl below ↦ get_or_append_left (table n f) (f n ∷ []) d k (omega arith)
-          ∙ get_or-table n f k d below
-      | inr last ↦
-          let is : k ≡ n = omega arith in
-          get_or_push (table n f) (f n) d k (omega arith) ∙ ap (λ i. f i) (sym is)
-    ]
+get_or-table (suc n) f k d h = grind (arith, common_steps, length-table n f, get_or-table n f k d)
 
 -- a table with one more element is the table and that element
 pub table-more : {X : Type 0} (n m : ℕ) (f : ℕ → X) → m ≡ n + 1 → table m f ≡ table n f ++ f n ∷ []
@@ -77,21 +69,10 @@ pub places_inside : (size : ℕ) (spans : List Span) → LieIn size spans → (k
 unfolding places span_places LieIn
 places_inside size [] inside k below = absurd (omega arith)
 places_inside size (s ∷ spans) inside k below =
-    let first = span_places s in
     let here : s.address + s.len ≤ size = inside 0 s (omega arith) in
     let len = length-span_places s in
-    elim (cases_lt k (length first)) [
-      | inl in_first ↦
-          let is = get_or_append_left first (places spans) 0 k in_first
-          ∙ get_or-table s.len (λ j. s.address + j) k 0 (omega arith) in
-          omega (arith, is)
-      | inr later ↦
-          let is = get_or-append_right first (places spans) (length first) k 0 refl later in
-          let fits =
-          places_inside size spans (λ i d h. inside (suc i) d (omega arith)) (k - length first)
-          (omega (arith, length-append first (places spans))) in
-          omega (arith, is, fits)
-    ]
+    let others = places_inside size spans (λ i d h. inside (suc i) d (omega arith)) (k - s.len) in
+    grind (arith, common_steps, get_or-table)
 
 -- ---- bytes read from places and written to them
 

@@ -1,6 +1,5 @@
 //! The spans of memory that a transfer covers, in order, and copies between them and a slice or a
-//! payload, in the order of the transfer. As in the standard's commands, "out" and "in" are seen
-//! from the controller.
+//! payload, in the order of the transfer. "Out" is to this memory, and "in" is from it.
 
 ghost use Rattle.std.specs.Prelude.{◌≡◌, ◌<◌, ◌≤◌, ◌^◌, ◌++◌, ◌∷◌, ◌↔◌, [], IsTrue, length, take};
 ghost use Rattle.nv_prp.specs.Place.{LieIn, places, read_at, written_at};
@@ -97,8 +96,8 @@ impl fmt::Debug for Spans {
     }
 }
 
-/// Writes the bytes of a payload to the spans of the memory, span by span: data from the controller
-/// to the host. If spans overlap, the later byte stays.
+/// Writes the bytes of a payload to the spans of the memory, one span after the other. If spans
+/// overlap, the later byte stays.
 ///
 /// The spans must lie in the memory, and have as many bytes as the payload.
 #[tactic(auto, using(crate::proofs::CopyLaws::lefts))]
@@ -119,8 +118,8 @@ pub fn write_out<M: PagedMemory, P: Payload>(mem: &mut M, spans: &Spans, payload
     }
 }
 
-/// Writes the bytes of `source` to the spans of the memory: data from the controller to the host.
-/// If spans overlap, the later byte stays.
+/// Writes the bytes of `source` to the spans of the memory, one span after the other. If spans
+/// overlap, the later byte stays.
 ///
 /// The spans must lie in the memory, and have as many bytes as `source`.
 pub fn copy_out<M: PagedMemory>(mem: &mut M, spans: &Spans, source: &[u8])
@@ -133,7 +132,8 @@ pub fn copy_out<M: PagedMemory>(mem: &mut M, spans: &Spans, source: &[u8])
     write_out(mem, spans, &source);
 }
 
-/// Reads the bytes of the spans of the memory into `out`: data from the host to the controller.
+/// Reads the bytes of the spans of the memory into `out`, one span after the other. The memory
+/// doesn't change.
 ///
 /// The spans must lie in the memory, and have as many bytes as `out`.
 #[tactic(auto, using(crate::proofs::CopyLaws::lefts))]
@@ -150,8 +150,8 @@ pub fn copy_in<M: PagedMemory>(mem: &M, spans: &Spans, out: &mut [u8])
     }
 }
 
-/// Returns the bytes of the spans of the memory, data from the host to the controller: where they
-/// lie if they are one span inside a page, or else a copy in `room`.
+/// Returns the bytes of the spans of the memory: where they lie if they are one span inside a page,
+/// or else a copy in `room`.
 ///
 /// The spans must lie in the memory, and have as many bytes as `room`.
 #[tactic(auto, using(crate::proofs::CopyLaws::viewed))]

@@ -53,126 +53,114 @@ record KeepsExchange (base d : ℕ) (m : Moment) : Type 0 where
 abbrev IsReached : ℕ → ℕ → Exchange → Type 0
 IsReached base d x = (m : Moment) × KeepsExchange base d m × (x ≡ exchange_of base d m)
 
--- the completions that were polled and the ones that were not are all that were posted
-counted : (base d : ℕ) (m : Moment) → KeepsExchange base d m
-    → length m.polled + length m.rest ≡ length m.posted
-counted base d m keeps = sym (length-append m.polled m.rest) ∙ ap length keeps.prefix
+-- at a moment at which everything holds
+module _ (base d : ℕ) (m : Moment) (keeps : KeepsExchange base d m) where
+  -- the completions that were polled and the ones that were not are all that were posted
+  counted : length m.polled + length m.rest ≡ length m.posted
+  counted = sym (length-append m.polled m.rest) ∙ ap length keeps.prefix
 
--- ---- each event
+  -- ---- each event
 
--- a moment has the exchange after a completion was put into a ring that isn't full
-after_put : (base d : ℕ) (m : Moment) (c : Cqe) → KeepsExchange base d m → CqeFits c
-    → ¬ IsPostFull (exchange_of base d m).device → IsReached base d (with_put (exchange_of base d m) c)
-after_put base d m c keeps fits free =
-    let x = exchange_of base d m in
-    let n = length m.posted in
-    let deep = keeps.deep in
-    let new = put_as x.device c in
-    let more = length_push m.posted new in
-    let same = length-with_completion m.bytes x.device c (omega arith) keeps.inside in
-    let room : n + 1 < m.known + d =
-    elim (cases_lt (n + 1) (m.known + d)) [
-      | inl l ↦ l
-      | inr g ↦
-          let last : n ≡ m.known + (d - 1) = omega (arith, keeps.few) in
-          absurd (free (distance_kept d n m.known (d - 1) (omega arith) last (omega arith)))
-    ] in
-    let y = with_put x c in
-    let at : ℕ → Exchange = λ k. record y { device = record x.device { posted = k } } in (
-      record m {
-        bytes = with_completion m.bytes x.device c;
-        posted = m.posted ++ new ∷ [];
-        rest = m.rest ++ new ∷ [];
-      },
-      record {
-        deep = deep;
-        inside = omega (arith, same, keeps.inside);
-        holds = holds_one_more m.bytes (with_completion m.bytes x.device c) x.device c deep.0 refl
-            m.posted refl keeps.inside fits keeps.holds;
-        prefix = sym (append_assoc m.polled m.rest (new ∷ []))
-            ∙ ap (λ l. l ++ new ∷ []) keeps.prefix;
-        told = keeps.told;
-        few = omega (arith, more, room);
-      },
-      ap at (kept_next d n ∙ ap (kept_number d) (sym more)),
-    )
+  -- a moment has the exchange after a completion was put into a ring that isn't full
+  after_put : (c : Cqe) → CqeFits c → ¬ IsPostFull (exchange_of base d m).device
+      → IsReached base d (with_put (exchange_of base d m) c)
+  after_put c fits free =
+      let x = exchange_of base d m in
+      let n = length m.posted in
+      let deep = keeps.deep in
+      let new = put_as x.device c in
+      let more = length_push m.posted new in
+      let same = length-with_completion m.bytes x.device c (omega arith) keeps.inside in
+      let room : n + 1 < m.known + d =
+      elim (cases_lt (n + 1) (m.known + d)) [
+        | inl l ↦ l
+        | inr g ↦
+            let last : n ≡ m.known + (d - 1) = omega (arith, keeps.few) in
+            absurd (free (distance_kept d n m.known (d - 1) (omega arith) last (omega arith)))
+      ] in
+      let y = with_put x c in
+      let at : ℕ → Exchange = λ k. record y { device = record x.device { posted = k } } in (
+        record m {
+          bytes = with_completion m.bytes x.device c;
+          posted = m.posted ++ new ∷ [];
+          rest = m.rest ++ new ∷ [];
+        },
+        record {
+          deep = deep;
+          inside = omega (arith, same, keeps.inside);
+          holds = holds_one_more m.bytes (with_completion m.bytes x.device c) x.device c deep.0 refl
+              m.posted refl keeps.inside fits keeps.holds;
+          prefix = sym (append_assoc m.polled m.rest (new ∷ [])) ∙ ap (λ l. l ++ new ∷ []) keeps.prefix;
+          told = keeps.told;
+          few = omega (arith, more, room);
+        },
+        ap at (kept_next d n ∙ ap (kept_number d) (sym more)),
+      )
 
--- the awaited completion is there if and only if one is left
-found : (base d : ℕ) (m : Moment) → KeepsExchange base d m
-    → IsAwaitedThere m.bytes (exchange_of base d m).host ↔ (length m.polled < length m.posted)
-found base d m keeps =
-    let deep = keeps.deep in
-    let count = counted base d m keeps in
-    awaited_posted m.bytes (exchange_of base d m).host m.posted (length m.polled) deep.0 refl
-    (omega arith) (omega (arith, keeps.few, keeps.told)) keeps.holds
+  -- the awaited completion is there if and only if one is left
+  found : IsAwaitedThere m.bytes (exchange_of base d m).host ↔ (length m.polled < length m.posted)
+  found =
+      let count = counted in
+      awaited_posted m.bytes (exchange_of base d m).host m.posted (length m.polled) keeps.deep.0 refl
+      (omega arith) (omega (arith, keeps.few, keeps.told)) keeps.holds
 
--- a moment has the exchange after the awaited completion was polled
-after_poll : (base d : ℕ) (m : Moment) (rest : List Cqe) → m.rest ≡ rest → KeepsExchange base d m
-    → IsAwaitedThere m.bytes (exchange_of base d m).host
-    → IsReached base d (with_polled (exchange_of base d m))
-after_poll base d m [] none keeps there =
-    let l = (found base d m keeps).0 there in
-    let count = counted base d m keeps in
-    absurd (omega (arith, ap length none))
-after_poll base d m (r ∷ left) first keeps there =
-    let x = exchange_of base d m in
-    let k = length m.polled in
-    let l = (found base d m keeps).0 there in
-    let c = awaited_completion m.bytes x.host in
-    let more = length_push m.polled c in
-    let deep = keeps.deep in
-    let prefix : m.polled ++ (r ∷ left) ≡ m.posted =
-    ap (λ rest. m.polled ++ rest) (sym first) ∙ keeps.prefix in
-    let near : length m.posted ≤ k + d = omega (arith, keeps.few, keeps.told) in
-    let stands = awaited_stands m.bytes x.host m.posted k r deep.0 refl l near keeps.holds in
-    let seam = get_or-append_seam m.polled r left r in
-    let is : c ≡ r = stands ∙ (ap (λ xs. get_or xs k r) (sym prefix) ∙ seam) in
-    let y = with_polled x in
-    let at : ℕ → Exchange = λ j. record y { host = record y.host { collected = j } } in (
-      record m { polled = m.polled ++ c ∷ []; rest = left; untold = true },
-      record {
-        deep = deep;
-        inside = keeps.inside;
-        holds = keeps.holds;
-        prefix = append_assoc m.polled (c ∷ []) left
-            ∙ (ap (λ y. m.polled ++ (y ∷ left)) is ∙ prefix);
-        told = omega (arith, more, keeps.told);
-        few = keeps.few;
-      },
-      ap at (kept_next d k ∙ ap (kept_number d) (sym more)),
-    )
+  -- a moment has the exchange after the awaited completion was polled
+  after_poll : (rest : List Cqe) → m.rest ≡ rest → IsAwaitedThere m.bytes (exchange_of base d m).host
+      → IsReached base d (with_polled (exchange_of base d m))
+  after_poll [] none there =
+      let l = found.0 there in
+      let count = counted in
+      absurd (omega (arith, ap length none))
+  after_poll (r ∷ left) first there =
+      let x = exchange_of base d m in
+      let k = length m.polled in
+      let l = found.0 there in
+      let c = awaited_completion m.bytes x.host in
+      let more = length_push m.polled c in
+      let prefix : m.polled ++ (r ∷ left) ≡ m.posted =
+      ap (λ rest. m.polled ++ rest) (sym first) ∙ keeps.prefix in
+      let near : length m.posted ≤ k + d = omega (arith, keeps.few, keeps.told) in
+      let stands = awaited_stands m.bytes x.host m.posted k r keeps.deep.0 refl l near keeps.holds in
+      let is : c ≡ r = stands ∙ (ap (λ xs. get_or xs k r) (sym prefix) ∙ get_or-append_seam m.polled r left r) in
+      let y = with_polled x in
+      let at : ℕ → Exchange = λ j. record y { host = record y.host { collected = j } } in (
+        record m { polled = m.polled ++ c ∷ []; rest = left; untold = true },
+        record {
+          deep = keeps.deep;
+          inside = keeps.inside;
+          holds = keeps.holds;
+          prefix = append_assoc m.polled (c ∷ []) left ∙ (ap (λ y. m.polled ++ (y ∷ left)) is ∙ prefix);
+          told = omega (arith, more, keeps.told);
+          few = keeps.few;
+        },
+        ap at (kept_next d k ∙ ap (kept_number d) (sym more)),
+      )
 
--- the head that the host writes lies between the numbers that the device knows
-head_taken : (base d : ℕ) (m : Moment) → KeepsExchange base d m → IsHeadTaken (exchange_of base d m)
-head_taken base d m keeps =
-    let k = length m.polled in let n = length m.posted in
-    let count = counted base d m keeps in
-    let few = keeps.few in
-    let told = keeps.told in
-    between_kept d m.known (k - m.known) (n - m.known) k n
-    (omega arith) (omega arith) (omega arith) (omega arith)
+  -- the head that the host writes lies between the numbers that the device knows
+  head_taken : IsHeadTaken (exchange_of base d m)
+  head_taken =
+      let k = length m.polled in let n = length m.posted in
+      let count = counted in
+      between_kept d m.known (k - m.known) (n - m.known) k n (omega arith) (omega arith) (omega arith) (omega arith)
 
--- a moment has the exchange after the host wrote its head to the doorbell
-after_tell : (base d : ℕ) (m : Moment) → KeepsExchange base d m
-    → IsReached base d (with_told (with_head (exchange_of base d m)))
-after_tell base d m keeps =
-    let x = exchange_of base d m in
-    let k = length m.polled in
-    let count = counted base d m keeps in
-    let few = keeps.few in
-    let told = keeps.told in
-    let at : ℕ → Exchange = λ t. record (with_told x) { device = record x.device { told = t } } in (
-      record m { known = k; untold = false },
-      record {
-        deep = keeps.deep;
-        inside = keeps.inside;
-        holds = keeps.holds;
-        prefix = keeps.prefix;
-        told = omega arith;
-        few = omega arith;
-      },
-      ap at (first_kept d k m.known (k - m.known) (omega arith) (omega arith)),
-    )
+  -- a moment has the exchange after the host wrote its head to the doorbell
+  after_tell : IsReached base d (with_told (with_head (exchange_of base d m)))
+  after_tell =
+      let x = exchange_of base d m in
+      let k = length m.polled in
+      let count = counted in
+      let at : ℕ → Exchange = λ t. record (with_told x) { device = record x.device { told = t } } in (
+        record m { known = k; untold = false },
+        record {
+          deep = keeps.deep;
+          inside = keeps.inside;
+          holds = keeps.holds;
+          prefix = keeps.prefix;
+          told = omega arith;
+          few = omega arith;
+        },
+        ap at (first_kept d k m.known (k - m.known) (omega arith) (omega arith)),
+      )
 
 -- ---- a run
 
@@ -184,18 +172,15 @@ along base d x y e is = (is.0, is.1, e ∙ is.2)
 moment_keeps : (base d : ℕ) (m : Moment) (event : Event) (y : Exchange) → KeepsExchange base d m
     → Happens event (exchange_of base d m) y → IsReached base d y
 moment_keeps base d m (Put c) y keeps (fits, inl w) = (m, keeps, w.1)
-moment_keeps base d m (Put c) y keeps (fits, inr w) =
-    along base d _ y w.1 (after_put base d m c keeps fits w.0)
-moment_keeps base d m Poll y keeps (inl w) =
-    along base d _ y w.1 (after_poll base d m m.rest refl keeps w.0)
+moment_keeps base d m (Put c) y keeps (fits, inr w) = along base d _ y w.1 (after_put base d m keeps c fits w.0)
+moment_keeps base d m Poll y keeps (inl w) = along base d _ y w.1 (after_poll base d m keeps m.rest refl w.0)
 moment_keeps base d m Poll y keeps (inr w) = (m, keeps, w.1)
 moment_keeps base d m Tell y keeps (inl w) = (m, keeps, w.1)
 moment_keeps base d m Tell y keeps (inr (inl w)) = along base d _ y w.2 (after_tell base d m keeps)
 moment_keeps base d m Tell y keeps (inr (inr w)) = absurd (w.1 (head_taken base d m keeps))
 
 -- a moment has the exchange after any events, if a moment has the one before them
-run_keeps : (base d : ℕ) (events : List Event) (x y : Exchange) → Runs events x y
-    → IsReached base d x
+run_keeps : (base d : ℕ) (events : List Event) (x y : Exchange) → Runs events x y → IsReached base d x
     → IsReached base d y
 run_keeps base d [] x y e is = along base d x y e is
 run_keeps base d (event ∷ events) x y (z, first, others) is =

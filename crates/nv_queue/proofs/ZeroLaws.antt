@@ -1,11 +1,10 @@
 -- A completion ring whose slots were zeroed.
-use Rattle.std.proofs.Common.{◌≡◌, ◌∙◌, ℕ, ◌+◌, ◌-◌, ◌*◌, ◌<◌, ◌≤◌, List, ◌++◌, length, take, drop, ap, ap₂}
-use Rattle.std.proofs.Common.{append_assoc, arith, false, length-append, refl, sym}
+use Rattle.std.proofs.Common.{◌≡◌, ◌∙◌, ℕ, ◌+◌, ◌-◌, ◌*◌, ◌<◌, ◌≤◌, List, ◌++◌, length, take, ap}
+use Rattle.std.proofs.Common.{arith, false, length-append, length-drop, length-take, refl, sym}
 use Rattle.std.specs.Prelude.{replicate}
 use Rattle.std.proofs.lemmas.Bool.Decides.{nat_tests}
-use Rattle.std.proofs.lemmas.List.{drop-replicate, replicate-append-replicate, length-take-le}
-use Rattle.std.proofs.lemmas.List.{take-replicate, take_at}
-use Rattle.std.proofs.lemmas.Slice.{drop-append-drop}
+use Rattle.std.proofs.lemmas.List.{drop-replicate, places as item_places, replicate-append-replicate, same_lists}
+use Rattle.std.proofs.lemmas.List.{take-replicate}
 use Rattle.nv_host.specs.Bytes.{bytes_at, with_bytes}
 use Rattle.nv_layout.specs.Cqe.{cqe_of_bytes}
 use Rattle.nv_layout.specs.Parts.{number_at}
@@ -50,28 +49,12 @@ zeroed_tags bytes base d inside slot below = grind (arith, common_steps, zeroed_
 
 -- ---- zeros that are written one part after another
 
--- bytes that are written directly after others are written with them
-written_behind : (bytes : List ℕ) (base at : ℕ) (first second : List ℕ) → at ≡ base + length first
-    → at + length second ≤ length bytes
-    → with_bytes (with_bytes bytes base first) at second ≡ with_bytes bytes base (first ++ second)
+-- writing ys directly after xs writes xs ++ ys
+with_more : (bytes : List ℕ) (base : ℕ) (xs ys : List ℕ) → base + length xs + length ys ≤ length bytes
+    → with_bytes (with_bytes bytes base xs) (base + length xs) ys ≡ with_bytes bytes base (xs ++ ys)
 unfolding with_bytes
-written_behind bytes base at first second is inside =
-    let front = take base bytes in
-    let begin = front ++ first in
-    let end = at + length second in
-    let here : length begin ≡ at =
-    length-append front first
-    ∙ omega (arith, length-take-le base bytes (omega arith)) in
-    let old : front ++ (first ++ drop (base + length first) bytes) ≡ begin ++ drop at bytes =
-    sym (append_assoc front first (drop (base + length first) bytes))
-    ∙ ap (λ k. begin ++ drop k bytes) (sym is) in
-    let last : end ≡ base + length (first ++ second) = omega (arith, length-append first second) in
-    ap₂ (λ before after. before ++ (second ++ after))
-    (ap (take at) old ∙ take_at begin (drop at bytes) at here)
-    (ap (drop end) old ∙ drop-append-drop at bytes begin end (omega arith) here)
-    ∙ append_assoc front first (second ++ drop end bytes)
-    ∙ ap (λ rest. front ++ rest) (sym (append_assoc first second (drop end bytes)))
-    ∙ ap (λ k. front ++ ((first ++ second) ++ drop k bytes)) last
+with_more bytes base xs ys inside =
+    same_lists _ _ (simp (length-append, length-take, length-drop) (omega arith)) (λ k d h. grind (arith, item_places))
 
 -- writing no slots changes nothing
 pub zeroed_none : (bytes : List ℕ) (base : ℕ) → bytes ≡ with_bytes bytes base (replicate (16 * 0) 0)
@@ -85,10 +68,7 @@ pub zeroed_more : (old mid new : List ℕ) (base n d at : ℕ) → base + 16 * d
     → new ≡ with_bytes old base (replicate (16 * (n + 1)) 0)
 zeroed_more old mid new base n d at inside below place before written =
     let same : 16 * n + 16 ≡ 16 * (n + 1) = omega arith in
-    let behind : at ≡ base + length (replicate {A = ℕ} (16 * n) 0) =
-    place ∙ ap (λ k. base + k) (sym (length-replicate (16 * n) 0)) in
-    written
-    ∙ ap (λ bytes. with_bytes bytes at (replicate 16 0)) before
-    ∙ written_behind old base at (replicate (16 * n) 0) (replicate 16 0) behind (omega arith)
-    ∙ ap (with_bytes old base)
-    (replicate-append-replicate (16 * n) 16 0 ∙ ap (λ k. replicate k 0) same)
+    let zeros : List ℕ = replicate (16 * n) 0 in
+    let long : length zeros ≡ 16 * n = length-replicate (16 * n) 0 in
+    let behind : at ≡ base + length zeros = omega arith in
+    cc (with_more old base zeros (replicate 16 0) (omega arith), replicate-append-replicate {A = ℕ} (16 * n) 16 0)

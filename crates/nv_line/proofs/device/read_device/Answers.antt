@@ -1,13 +1,13 @@
 use Rattle.std.proofs.Common.{◌≡◌, ◌∙◌, ℕ, ap, lit<, option_and_then, option_map, sym, Bor, List, None, Option, Some}
 use Rattle.nv_line.specs.Device.{controller_index, namespace_address}
-use Rattle.nv_line.proofs.Strip.{at_controller, device_at, named, no_device, no_name, with_n, without_n}
+use Rattle.nv_line.proofs.Strip.{at_controller, device_at, named, no_name, with_n, without_n}
 use Rattle.nv_line.proofs.device.read_device.Goals as goal
 use Rattle.nv_line.proofs.device.read_device.Goals.{in-Some+in_ok-decimal-in-Some, in-None}
 
 pub returns-in_err-address-clause-value : goal.returns-in_err-address-clause-value
 returns-in_err-address-clause-value c =
     c.from_residual.ensures
-    ∙ no_device c.args.controllers c.args.text.now _ c.strip_prefix.ensures.cases c.in_err-address.was
+    ∙ device_at c.args.controllers c.args.text.now None _ c.strip_prefix.ensures.cases c.in_err-address.was
 
 pub returns-in_err-decimal-in-Some-clause-value : goal.returns-in_err-decimal-in-Some-clause-value
 returns-in_err-decimal-in-Some-clause-value c =
@@ -17,13 +17,14 @@ returns-in_err-decimal-in-Some-clause-value c =
     c.from_residual-in_err-decimal-in-Some.ensures
     ∙ no_name y (controller_index n x) (sym c.decimal.ensures ∙ c.in_err-decimal-in-Some.was)
     ∙ with_n n c.in_ok-address.address.now x y (c.in-Some.ensures.byte (lit< tt) (λ w o h. h))
-    ∙ device_at n c.args.text.now c.in_ok-address.address _ c.strip_prefix.ensures.cases c.in_ok-address.was
+    ∙ device_at n c.args.text.now (Some c.in_ok-address.address) _ c.strip_prefix.ensures.cases c.in_ok-address.was
 
 pub returns-in_err-controller-clause-value : goal.returns-in_err-controller-clause-value
 returns-in_err-controller-clause-value c =
     let n = c.args.controllers in
     let address = c.in_ok-address.address.now in
-    let at = device_at n c.args.text.now c.in_ok-address.address _ c.strip_prefix.ensures.cases c.in_ok-address.was in
+    let whole = Some c.in_ok-address.address in
+    let at = device_at n c.args.text.now whole _ c.strip_prefix.ensures.cases c.in_ok-address.was in
     let none = sym c.controller_index.ensures.value ∙ c.in_err-controller.was in
     elim c.match-split_once.branch [
       | in-Some+in_ok-decimal-in-Some w ↦
@@ -46,7 +47,8 @@ pub returns-clause-value : goal.returns-clause-value
 returns-clause-value c =
     let n = c.args.controllers in
     let address = c.in_ok-address.address.now in
-    let at = device_at n c.args.text.now c.in_ok-address.address _ c.strip_prefix.ensures.cases c.in_ok-address.was in
+    let whole = Some c.in_ok-address.address in
+    let at = device_at n c.args.text.now whole _ c.strip_prefix.ensures.cases c.in_ok-address.was in
     let k = c.in_ok-controller.controller in
     let some = sym c.controller_index.ensures.value ∙ c.in_ok-controller.was in
     elim c.match-split_once.branch [

@@ -1,5 +1,5 @@
-use Rattle.std.proofs.Common.{◌≡◌, ◌∙◌, ◌-◌, ◌%◌, ◌/◌, ◌∷◌, ap, sym, arith, drop, false, length-set, set}
-use Rattle.std.specs.Fmt.{digit_glyph, digits_onto}
+use Rattle.nv_print.proofs.Words.{arith, common_steps}
+use Rattle.nv_print.proofs.Words.{◌-◌, ◌∙◌, ◌≡◌, ap, digits_onto, drop, false}
 use Rattle.std.proofs.lemmas.List.{drop_all}
 use Rattle.nv_print.proofs.HexadecimalDigits.{first_digit, later_digit, none_written, put_before}
 use Rattle.nv_print.proofs.hexadecimal.write_digits.Goals as goal
@@ -15,38 +15,10 @@ loop-start-init c =
     }
 
 pub loop-start-preserved : goal.loop-start-preserved
-loop-start-preserved c =
-    let l = c.loop-start in
-    let some = l.start - 2 in
-    let fuel : l.start - 1 - 2 ≡ some - 1 = omega arith in
-    let written =
-    put_before l.room l.start (digit_glyph false (l.rest % 16)) (omega arith) (omega (arith, l.invariant.room)) in
-    record {
-      after = omega arith;
-      within = omega (arith, l.invariant.within);
-      room = length-set l.room (l.start - 1) c.digit.result ∙ l.invariant.room;
-      digits = ap (λ d. digits_onto (l.start - 1 - 2) 16 false (l.rest / 16)
-          (drop (l.start - 1) (set l.room (l.start - 1) d)))
-          c.digit.ensures
-          ∙ ap (digits_onto (l.start - 1 - 2) 16 false (l.rest / 16)) written
-          ∙ ap (λ k. digits_onto k 16 false (l.rest / 16) (digit_glyph false (l.rest % 16) ∷ drop l.start l.room)) fuel
-          ∙ sym (later_digit some l.rest (drop l.start l.room) (omega arith) c.if-rest-eq0.false)
-          ∙ l.invariant.digits;
-    }
+loop-start-preserved c = grind (arith, common_steps, later_digit, put_before)
 
 pub returns-then-rest-eq0 : goal.returns-then-rest-eq0
-returns-then-rest-eq0 c =
-    let l = c.loop-start in
-    let written =
-    put_before l.room l.start (digit_glyph false (l.rest % 16)) (omega arith) (omega (arith, l.invariant.room)) in
-    record {
-      after = omega arith;
-      within = omega (arith, l.invariant.within);
-      value = ap (λ d. drop (l.start - 1) (set l.room (l.start - 1) d)) c.digit.ensures
-          ∙ written
-          ∙ sym (first_digit (l.start - 2) l.rest (drop l.start l.room) (omega arith) c.if-rest-eq0.true)
-          ∙ l.invariant.digits;
-    }
+returns-then-rest-eq0 c = grind (arith, common_steps, first_digit, put_before)
 
 pub returns-after-loop-start-clause-value : goal.returns-after-loop-start-clause-value
 returns-after-loop-start-clause-value c =

@@ -1,8 +1,8 @@
 use Rattle.std.proofs.Common.{rules}
 use Rattle.nv_print.specs.Records.{fields_of_id_ctrl}
-use Rattle.nv_print.proofs.Fields.{and_field}
+use Rattle.nv_print.proofs.Fields.{◌∷≡◌}
 use Rattle.nv_print.proofs.identity.id_ctrl_fields.Goals as goal
 
 pub returns-clause-value : goal.returns-clause-value
 unfolding fields_of_id_ctrl
-returns-clause-value c = search (rules, and_field) depth 60
+returns-clause-value c = search (rules, ◌∷≡◌) depth 60

@@ -1,33 +1,14 @@
 use Rattle.std.proofs.Common.{refl}
 use Rattle.nv_print.specs.Records.{fields_of_smart}
-use Rattle.nv_print.proofs.Fields.{and_field}
+use Rattle.nv_print.proofs.Fields.{◌∷≡◌}
 use Rattle.nv_print.proofs.log_fields.smart_fields.Goals as goal
 
 pub returns : goal.returns
 unfolding fields_of_smart
 returns c =
-    (and_field c.hexadecimal.ensures
-    (and_field c.decimal.ensures
-    (and_field c.decimal-2.ensures
-    (and_field c.decimal-3.ensures
-    (and_field c.decimal-4.ensures
-    (and_field c.wide.ensures
-    (and_field c.wide-2.ensures
-    (and_field c.wide-3.ensures
-    (and_field c.wide-4.ensures
-    (and_field c.wide-5.ensures
-    (and_field c.wide-6.ensures
-    (and_field c.wide-7.ensures
-    (and_field c.wide-8.ensures
-    (and_field c.wide-9.ensures
-    (and_field c.wide-10.ensures
-    (and_field c.decimal-5.ensures
-    (and_field c.decimal-6.ensures
-    (and_field c.decimal-7.ensures
-    (and_field c.decimal-8.ensures
-    (and_field c.decimal-9.ensures
-    (and_field c.decimal-10.ensures
-    (and_field c.decimal-11.ensures
-    (and_field c.decimal-12.ensures
-    (and_field c.decimal-13.ensures
-    (and_field c.decimal-14.ensures refl)))))))))))))))))))))))))
+    c.hexadecimal.ensures ∷≡ c.decimal.ensures ∷≡ c.decimal-2.ensures ∷≡ c.decimal-3.ensures ∷≡
+    c.decimal-4.ensures ∷≡ c.wide.ensures ∷≡ c.wide-2.ensures ∷≡ c.wide-3.ensures ∷≡ c.wide-4.ensures ∷≡
+    c.wide-5.ensures ∷≡ c.wide-6.ensures ∷≡ c.wide-7.ensures ∷≡ c.wide-8.ensures ∷≡ c.wide-9.ensures ∷≡
+    c.wide-10.ensures ∷≡ c.decimal-5.ensures ∷≡ c.decimal-6.ensures ∷≡ c.decimal-7.ensures ∷≡
+    c.decimal-8.ensures ∷≡ c.decimal-9.ensures ∷≡ c.decimal-10.ensures ∷≡ c.decimal-11.ensures ∷≡
+    c.decimal-12.ensures ∷≡ c.decimal-13.ensures ∷≡ c.decimal-14.ensures ∷≡ refl

@@ -1,17 +1,12 @@
-use Rattle.nv_print.proofs.Words.{◌++◌, ◌∙◌, ap, arith, entry_text, get_or, no_entry, string_bytes, sym}
-use Rattle.nv_print.proofs.NumberedLines.{lines_of_next}
+use Rattle.nv_print.proofs.Words.{[], ◌∙◌, arith, entry_text, no_entry}
+use Rattle.nv_print.proofs.NumberedLines.{next_line}
 use Rattle.nv_print.proofs.PresentEntries.{text_present}
 use Rattle.nv_print.proofs.logs.entries_text.Goals as goal
 
 pub loop-index-preserved : goal.loop-index-preserved
 loop-index-preserved c =
-    let i = c.loop-index.index in
-    let entries = c.args.entries.now in
-    c.in_ok-push_entry.ensures
-    ∙ ap (λ e. string_bytes c.loop-index.text ++ entry_text i e) c.get.ensures
-    ∙ ap (λ t. t ++ entry_text i (get_or entries i no_entry)) c.loop-index.invariant
-    ∙ sym (lines_of_next entry_text entries i no_entry
-    (omega (arith, c.present-index-end.ensures.within)))
+    next_line entry_text [] _ _ c.args.entries.now c.loop-index.index _ no_entry
+    (omega (arith, c.present-index-end.ensures.within)) c.get.ensures c.loop-index.invariant c.in_ok-push_entry.ensures
 
 pub returns : goal.returns
 returns c =

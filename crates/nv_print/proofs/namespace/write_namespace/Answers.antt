@@ -1,5 +1,5 @@
-use Rattle.nv_print.proofs.Words.{Adds, Data, Lbaf, List, Members, array, data_tokens, flat_map, formats_of, items_of}
-use Rattle.nv_print.proofs.Words.{map, object, object_of, on_ok_weaker, subst, sym}
+use Rattle.nv_print.proofs.Words.{Data, array, formats_of, items_of}
+use Rattle.nv_print.proofs.Words.{map, object_of, on_ok_weaker}
 use Rattle.std.proofs.Common.{codes}
 use Rattle.nv_print.specs.Records.{fields_of_id_ns, fields_of_lbaf}
 use Rattle.nv_print.proofs.TokenLaws.{among_added}
@@ -14,19 +14,12 @@ returns c =
     let begun = c.in_ok-begin_object.ensures in
     let name = c.in_ok-key.ensures in
     let list_begun = c.in_ok-begin_array.ensures in
-    let formats =
-    subst (λ (fs : List Lbaf). Adds
-    (flat_map (λ f. data_tokens (object_of (fields_of_lbaf f))) fs) c.begin_array.new.self c.write_formats.new.out)
-    c.formats_of.ensures c.in_ok-write_formats.ensures in
     let list_ended = c.in_ok-end_array.ensures in
     let ended = c.end_object.ensures in
     on_ok_weaker c.end_object.result
-    (λ last. subst
-    (λ (ms : Members). Adds (data_tokens (object ms)) c.args.out.now c.end_object.new.self)
-    (sym (members.ensures list))
-    (among_added (codes "lbafs") (λ f. object_of (fields_of_lbaf f)) (formats_of r) members.result.0 members.result.1
-    c.args.out.now c.begin_object.new.self c.write_fields.new.out c.key.new.self c.begin_array.new.self
-    c.write_formats.new.out c.end_array.new.self c.write_fields-2.new.out c.end_object.new.self
-    (begun.room.0, begun.ok) c.in_ok-write_fields.ensures (name.room.0, name.ok)
-    (list_begun.room.0, list_begun.ok) formats (list_ended.room.0, list_ended.ok) c.in_ok-write_fields-2.ensures
-    (ended.room.0, last))) ended.ok
+    (λ last. among_added (codes "lbafs") (λ f. object_of (fields_of_lbaf f)) (formats_of r) members.result.0
+    members.result.1 _ c.args.out.now c.begin_object.new.self c.write_fields.new.out c.key.new.self
+    c.begin_array.new.self c.write_formats.new.out c.end_array.new.self c.write_fields-2.new.out c.end_object.new.self
+    (members.ensures list) (begun.room.0, begun.ok) c.in_ok-write_fields.ensures (name.room.0, name.ok)
+    (list_begun.room.0, list_begun.ok) (rw c.formats_of.ensures at c.in_ok-write_formats.ensures)
+    (list_ended.room.0, list_ended.ok) c.in_ok-write_fields-2.ensures (ended.room.0, last)) ended.ok

@@ -1,18 +1,7 @@
-use Rattle.nv_print.proofs.Words.{number, on_ok_weaker, unsigned}
-use Rattle.std.proofs.Common.{codes}
-use Rattle.nv_print.proofs.TokenLaws.{list_added}
+use Rattle.nv_print.proofs.Words.{arith, common_steps}
+use Rattle.nv_print.proofs.Words.{number, unsigned}
+use Rattle.nv_print.proofs.TokenLaws.{list_ends}
 use Rattle.nv_print.proofs.ns_list.write_nsids.Goals as goal
 
 pub returns-clause-value : goal.returns-clause-value
-returns-clause-value c =
-    let begun = c.in_ok-begin_object.ensures in
-    let name = c.in_ok-key.ensures in
-    let list_begun = c.in_ok-begin_array.ensures in
-    let list_ended = c.in_ok-end_array.ensures in
-    let ended = c.end_object.ensures in
-    on_ok_weaker c.end_object.result
-    (λ last. list_added (codes "nsids") (λ n. number (unsigned n)) c.args.nsids.now c.args.out.now
-    c.begin_object.new.self c.key.new.self c.begin_array.new.self
-    c.write_elements.new.out c.end_array.new.self c.end_object.new.self
-    (begun.room.0, begun.ok) (name.room.0, name.ok) (list_begun.room.0, list_begun.ok) c.in_ok-write_elements.ensures
-    (list_ended.room.0, list_ended.ok) (ended.room.0, last)) ended.ok
+returns-clause-value c = grind (arith, common_steps, list_ends (λ n. number (unsigned n)) c.args.nsids.now)

@@ -82,10 +82,9 @@ returns-in_default-clause-stays g c =
     (list.second * size) buffer.pages.now n) c.data_pages.ensures.value c.write_list.ensures.names in
     let stays : StaysFor t buffer.pages.now buffer.offset list.first list.second = λ later keeps.
     let same = keeps.len ∙ c.write_list.ensures.len in
-    many_pages
-    (transfer size later t.prp1 t.prp2 t.len) buffer.pages.now buffer.offset list.first list.second list.offset
+    many_pages (transfer size later t.prp1 t.prp2 t.len) buffer.pages.now buffer.offset
     (begins t.prp2 is (buffer_kept _ later _ _ _ _ same c.requires.buffer) c.page_address.ensures.value c.from.ensures)
-    many c.write_list.ensures.value
+    list.first list.second list.offset many c.write_list.ensures.value
     (list_place_kept _ later size list.first list.second list.offset same c.requires.list)
     (names_kept t buffer.pages.now list.first list.second later many
     (omega (arith, c.data_pages.ensures)) lies keeps names) in
