@@ -1,16 +1,13 @@
 -- The places of an entry's data.
 use Rattle.std.proofs.Common.{◌≡◌, ◌∙◌, ℕ, ◌%◌, ◌^◌, ◌<◌, ◌≤◌, ◌==◌, Bool, true, false}
-use Rattle.std.proofs.Common.{if◌then◌else◌, ap, refl, subst, sym, arith, lit<, lit≤, List, []}
-use Rattle.std.proofs.Common.{Option, Result, Ok, Err}
+use Rattle.std.proofs.Common.{if◌then◌else◌, ap, refl, subst, sym, arith, List, []}
+use Rattle.std.proofs.Common.{Option, Result, Ok, Err, rules}
 use Rattle.std.proofs.lemmas.Bool.Decides.{nat_tests}
 use Rattle.nv_layout.specs.declared.sqe.Sqe.{Sqe}
 use Rattle.nv_command.specs.Decoding.{decoded_as, decoded_of, opcode_of, transfer_in, transfer_of}
 use Rattle.nv_command.specs.Form.{namespace_of}
 use Rattle.nv_command.specs.Identify.{identify_by}
-use Rattle.nv_command.specs.Management.{select_of}
 use Rattle.nv_command.specs.declared.command.Command.{Command}
-use Rattle.nv_command.specs.declared.command.Command.TheVariants.{ActiveList, AllocatedList, AllocatedNamespace}
-use Rattle.nv_command.specs.declared.command.Command.TheVariants.{Delete, IdentifyController, IdentifyNamespace}
 use Rattle.nv_command.specs.declared.decoded.Decoded.{Decoded}
 use Rattle.nv_command.specs.declared.decoded.Decoded.TheVariants as decoded
 use Rattle.nv_layout.specs.Steps.{◌>>=◌}
@@ -86,33 +83,18 @@ asked_if n false k r first later = later
 
 -- an Identify with this NSID asks for what such an entry may ask for
 asked_identify : (cns n : ℕ) → AskedIf n (identify_by cns n >>= whole)
-asked_identify cns n =
-    let own : n ≤ n = omega arith in
-    asked_if n (cns == 0x00) (IdentifyNamespace n) _ (lit< tt, own)
-    (asked_if n (cns == 0x01) IdentifyController _ (lit< tt, omega arith)
-    (asked_if n (cns == 0x02) (ActiveList n) _ (lit< tt, own)
-    (asked_if n (cns == 0x10) (AllocatedList n) _ (lit< tt, own)
-    (asked_if n (cns == 0x11) (AllocatedNamespace n) (Err InvalidFieldInCommand) (lit< tt, own) tt))))
+asked_identify cns n = search (rules, asked_if)
 
 -- a choice between two operations by SEL, each of which may be asked for, may be asked for
 asked_select : (n select : ℕ) (x y : Decoded) → IsAsked n x → IsAsked n y
     → AskedIf n (if select == 0x0 then Ok x else (if select == 0x1 then Ok y else Err InvalidFieldInCommand))
-asked_select n select x y first later = by_test (select == 0x0) (select == 0x1)
-  where
-    by_test : (a b : Bool) → AskedIf n (if a then Ok x else (if b then Ok y else Err InvalidFieldInCommand))
-    by_test true b = first
-    by_test false true = later
-    by_test false false = tt
+asked_select n select x y first later = search rules
 
 -- what an entry asks for by its opcode may be asked for with the entry's NSID
 asked_as : (o : Opcode) (e : Sqe) → AskedIf e.nsid (decoded_as o e)
 asked_as Identify e = asked_identify (e.cdw10 % 2 ^ 8) e.nsid
-asked_as NamespaceManagement e =
-    asked_select e.nsid (select_of e) decoded.Create (decoded.Whole (Delete e.nsid)) ((lit< tt, lit≤ tt), omega arith)
-    (tt, omega arith)
-asked_as NamespaceAttachment e =
-    asked_select e.nsid (select_of e) (decoded.Attachment e.nsid false) (decoded.Attachment e.nsid true)
-    ((lit< tt, lit≤ tt), omega arith) ((lit< tt, lit≤ tt), omega arith)
+asked_as NamespaceManagement e = search (rules, asked_select)
+asked_as NamespaceAttachment e = search (rules, asked_select)
 asked_as GetLogPage e = (omega arith, omega arith)
 asked_as o e = (tt, omega arith)
 

@@ -1,8 +1,8 @@
 -- How many entries a turn takes if the rings lie in the memory.
-use Rattle.std.proofs.Common.{◌≡◌, ◌≢◌, ◌⊎◌, inl, inr, ◌∙◌, ℕ, zero, suc, ◌+◌, ◌-◌, ◌<◌, ◌≤◌, ◌==◌}
+use Rattle.std.proofs.Common.{◌≡◌, ◌≢◌, ◌⊎◌, ◌∙◌, ℕ, zero, suc, ◌+◌, ◌-◌, ◌<◌, ◌≤◌, ◌==◌}
 use Rattle.std.proofs.Common.{◌&&◌, not, nat_le, Bool, true, false, ap, refl, subst, sym, arith}
 use Rattle.std.proofs.Common.{min, List, length, Result, Ok, Err}
-use Rattle.std.proofs.lemmas.Bool.{cases_eq, cases_lt, false_from_ne_true}
+use Rattle.std.proofs.lemmas.Bool.{cases_lt, false_from_ne_true}
 use Rattle.std.proofs.lemmas.Bool.Decides.{nat_tests}
 use Rattle.nv_host.proofs.BytesLaws.{length-with_bytes}
 use Rattle.nv_layout.specs.Cqe.{bytes_of_cqe}
@@ -118,14 +118,7 @@ rings_one_less r page_size size is can =
 none_can : (r : Rings) (page_size size : ℕ) → RingsLie r page_size size → (can_take r ≡ true → ⊥)
     → (waiting r ≡ 0) ⊎ (free_slots r ≡ 0)
 none_can r page_size size is cannot =
-    elim (cases_eq r.submission.fetched r.submission.rung) [
-      | inl e ↦ inl (no_distance _ _ _ is.fetch e)
-      | inr some ↦ elim (cases_eq (distance r.completion.depth r.completion.posted r.completion.told)
-          (r.completion.depth - 1)) [
-            | inl full ↦ inr (omega arith)
-            | inr free ↦ absurd (cannot (can_by _ _ _ _ some free))
-          ]
-    ]
+    grind (arith, nat_tests, no_distance r.submission.depth r.submission.fetched r.submission.rung is.fetch)
 
 -- ---- the memory keeps its length
 
@@ -200,11 +193,7 @@ taken_less (suc k) page_size c old new is taken =
     let more = rest.rings in
     record {
       len = rest.len ∙ first.len;
-      rings = record {
-        lie = more.lie;
-        wait = omega (arith, one.wait, more.wait);
-        free = omega (arith, one.free, more.free);
-      };
+      rings = record { lie = more.lie; wait = omega arith; free = omega arith };
     }
 
 -- ---- a turn
@@ -213,14 +202,7 @@ taken_less (suc k) page_size c old new is taken =
 -- if v or g is 0
 least : (most w f count v g : ℕ) → count ≤ most → w ≡ v + count → f ≡ g + count
     → (count < most → (v ≡ 0) ⊎ (g ≡ 0)) → count ≡ min most (min w f)
-least most w f count v g few wait free stop =
-    elim (cases_lt count most) [
-      | inl more ↦ elim (stop more) [
-        | inl none ↦ omega arith
-        | inr none ↦ omega arith
-      ]
-      | inr all ↦ omega arith
-    ]
+least most w f count v g few wait free stop = grind (arith, cases_lt count most)
 
 -- if both rings lie in the memory, a turn takes the least of the entries that may be taken, the
 -- entries that are waiting and the free slots, and it ends without a fatal status

@@ -4,7 +4,7 @@ use Rattle.std.proofs.Common.{Some, None, nat_lt, refl, sym, ap, arith}
 use Rattle.std.specs.FinMap as map_of
 use Rattle.nv_model.specs.Attachment.{attach_rows, attached, attachment_rows, detached, fewer, has_attached, is_listed}
 use Rattle.nv_model.specs.Attachment.{is_private, more, unchanged, with_attachments, with_one}
-use Rattle.nv_model.specs.Management.{with_attached, with_nsids, without}
+use Rattle.nv_model.specs.Management.{with_attached, with_nsids}
 use Rattle.nv_model.proofs.Words.{AllByRecursion, AreValues, contains-insert, Controller, count_by, first_refusal}
 use Rattle.nv_model.proofs.Words.{if◌then◌else◌, is_allocated, IsController, IsWellFormed}
 use Rattle.nv_model.proofs.Words.{length-map, Namespace, nat_tests, not-false, option_map_or, State}
@@ -98,16 +98,9 @@ detach_keeps s n ids w = attached_keep s (fewer n ids) s.namespaces w (record {
               (λ c t. kept n ids c q t) s.controllers,
         );
       };
-  values = λ x is. less_values x is (is_listed ids x);
+  values = λ x is. search (rules, values-without);
   capacities = w.capacities;
 })
-  where
-    less_values : (x : Controller) → IsController s.namespaces x → (b : Bool)
-        → AreValues x.rules x.identity.numbers.vwc (if b then without n x else unchanged x).nsids
-        (if b then without n x else unchanged x).values
-    less_values x is true =
-        values-without x.rules x.identity.numbers.vwc x.attached x.values is.values n
-    less_values x is false = is.values
 
 -- ---- both
 

@@ -1,16 +1,16 @@
 -- A format leaves a well-formed subsystem well formed.
-use Rattle.std.proofs.Common.{rules, ◌≡◌, ◌∙◌, ℕ, ◌-◌, ◌==◌, ◌≤◌, ◌^◌, Bool, true, false, cond, List, [], ◌∷◌, Option}
+use Rattle.std.proofs.Common.{rules, ◌≡◌, ℕ, ◌-◌, ◌≤◌, ◌^◌, Bool, true, false, List, [], ◌∷◌, Option}
 use Rattle.std.proofs.Common.{Some, None, nat_lt, refl, sym, subst, arith}
 use Rattle.std.specs.FinMap as map_of
 use Rattle.nv_command.specs.declared.format.NewFormat.{NewFormat}
 use Rattle.nv_model.specs.Format.{format_rows, formatted, in_format, is_below}
 use Rattle.nv_model.specs.inner.Format.{with_format}
 use Rattle.nv_model.proofs.Words.{AllByRecursion, can_have, changed_at_keys, concerned, first_refusal, fold, Format}
-use Rattle.nv_model.proofs.Words.{format_at, get_of_insert, is_refusal-refusal_by, IsInFormat, IsNamespace, IsSomeAnd}
+use Rattle.nv_model.proofs.Words.{format_at, get_of_insert, is_refusal-refusal_by, IsInFormat, IsSomeAnd}
 use Rattle.nv_model.proofs.Words.{IsWellFormed, list_any, may_extend, Namespace, Namespaces, nat_cmp-IsAntisymmetric}
-use Rattle.nv_model.proofs.Words.{nat_cmp_total, nat_tests, not-false, option_map_or, or_parts, slice_get, State}
+use Rattle.nv_model.proofs.Words.{nat_cmp_total, not-false, option_map_or, or_parts, slice_get, State}
 use Rattle.nv_model.proofs.ChangedKeysLaws.{folded}
-use Rattle.nv_model.proofs.ManagementLaws.{AllRefuse, controllers_with, extends_by, none_holds}
+use Rattle.nv_model.proofs.ManagementLaws.{AllRefuse, extends_by, inserted_keeps, none_holds}
 use Rattle.nv_model.proofs.UsedLaws.{used-change}
 
 -- each row of a format has a refusal
@@ -55,47 +55,17 @@ module _ (format : Format) (lbaf : ℕ) (mset : Bool) where
       })
   one_keeps s n None at can room w = w
   one_keeps s n (Some x) at can room w =
-      record {
-        keys = w.keys;
-        format_count = w.format_count;
-        formats = w.formats;
-        controller_count = w.controller_count;
-        controllers = controllers_with s.namespaces n (as_format x) s.controllers w.controllers;
-        cntlids = w.cntlids;
-        namespaces = λ q y e. named q y (q == n) refl
-            (sym (get_of_insert s.namespaces n (as_format x) q) ∙ e);
-        capacities = omega (
-          arith,
-          used-change s.namespaces n x (as_format x) at refl,
-          w.capacities,
-        );
-      }
-    where
-      fits_format : IsInFormat s.mc format (as_format x)
-      fits_format =
-          let old = w.namespaces n x at in
-          record {
-            capacity =
-                (size_of s n x at room, few s.mc x (slice_get s.formats x.format) old.format);
-            extended = extends_by format.ms s.mc mset can.extends;
-          }
-
-      named : (q : ℕ) (y : Namespace) (b : Bool) → (q == n) ≡ b
-          → cond b (Some (as_format x)) (map_of.get s.namespaces q) ≡ Some y
-          → IsNamespace
-          (record s { namespaces = map_of.insert s.namespaces n (as_format x) }) q y
-      named q y true is e =
-          let here : n ≡ q = grind (arith, nat_tests) in
-          let same : as_format x ≡ y = cc e in
-          let old = w.namespaces n x at in
-          let to = record s { namespaces = map_of.insert s.namespaces n (as_format x) } in
-          subst (λ m. IsNamespace to m y) here (subst (IsNamespace to n) same (record {
-            nsid = old.nsid;
-            format = subst (λ o. IsSomeAnd o (λ f. IsInFormat s.mc f (as_format x)))
-                (sym can.found) fits_format;
-            private = old.private;
-          }))
-      named q y false is e = assumption (w.namespaces q y e)
+      let old = w.namespaces n x at in
+      let fits : IsInFormat s.mc format (as_format x) = record {
+        capacity = (size_of s n x at room, few s.mc x (slice_get s.formats x.format) old.format);
+        extended = extends_by format.ms s.mc mset can.extends;
+      } in
+      inserted_keeps s n (as_format x) w (record {
+        nsid = old.nsid;
+        format = subst (λ o. IsSomeAnd o (λ f. IsInFormat s.mc f (as_format x))) (sym can.found) fits;
+        private = old.private;
+      })
+      (omega (arith, used-change s.namespaces n x (as_format x) at refl, w.capacities))
 
   -- ---- one after another
 

@@ -1,17 +1,13 @@
 -- The bounds of the greatest length of a command's data.
 use Rattle.std.proofs.lemmas.Grind.{common_steps}
-use Rattle.std.proofs.Common.{◌≡◌, ℕ, zero, suc, ◌*◌, ◌==◌, ◌^◌, ◌<◌, ◌≤◌, true, false, List, [], ◌∷◌, Option}
-use Rattle.std.proofs.Common.{Some, None, ap, arith, length, refl, rules}
-use Rattle.std.specs.FinMap as map_of
+use Rattle.std.proofs.Common.{◌≡◌, ℕ, zero, suc, ◌*◌, ◌^◌, ◌<◌, ◌≤◌, List, [], ◌∷◌, Option}
+use Rattle.std.proofs.Common.{ap, arith, length, refl, rules}
 use Rattle.std.proofs.Math.Nat.{pow-le-pow_right}
-use Rattle.nv_command.specs.declared.command.Command.TheVariants.{Attachment, Create, Delete, SetFeature}
-use Rattle.nv_model.specs.Attachment.{fewer, more}
-use Rattle.nv_model.specs.Management.{new_namespace, with_nsids, without, without_all, without_any, without_one}
 use Rattle.nv_model.specs.Step.{refused, step, step_by, with_command}
-use Rattle.nv_model.proofs.Words.{broadcast_nsid, changed_at, changed_nsids, Command, Controller, effect_of, feature_of}
-use Rattle.nv_model.proofs.Words.{free_nsid, greatest_limit, Identity, if◌then◌else◌, IsWellFormed}
+use Rattle.nv_model.proofs.Words.{changed_at, Command, Controller, effect_of}
+use Rattle.nv_model.proofs.Words.{greatest_limit, Identity, IsWellFormed}
 use Rattle.nv_model.proofs.Words.{limit_of, map, mdts_of, option_map_or, Refusal, refusal_of, slice_get}
-use Rattle.nv_model.proofs.Words.{slice_get_cases, State, with_controller, with_values}
+use Rattle.nv_model.proofs.Words.{slice_get_cases, State}
 use Rattle.nv_model.proofs.ChangedAtLaws.{slice_get-changed_at}
 
 -- an MDTS up to 8 gives at most the greatest limit
@@ -53,24 +49,7 @@ of_one f same xs c d = search (rules, slice_get-changed_at)
 
 -- the effect of a command doesn't change MDTS
 effect_mdts : (s : State) (c : ℕ) (k : Command) (d : ℕ) → mdts_of (effect_of s c k) d ≡ mdts_of s d
-effect_mdts s c (Create w) d =
-    elim (free_nsid s) as (λ o. mdts_of (option_map_or
-    (λ n. record s { namespaces = map_of.insert s.namespaces n (new_namespace s w) }) o s) d ≡ mdts_of s d)
-    [ None ↦ refl | Some n ↦ refl ]
-effect_mdts s c (Delete n) d =
-    elim (n == broadcast_nsid) as (λ b. mdts_of (if b then without_all s else without_one s n) d ≡ mdts_of s d) [
-      | true ↦ of_each (with_nsids without_any) (λ x. refl) s.controllers d
-      | false ↦ of_each (with_nsids (without n)) (λ x. refl) s.controllers d
-    ]
-effect_mdts s c (Attachment n true ids) d = of_each (with_nsids (fewer n ids)) (λ x. refl) s.controllers d
-effect_mdts s c (Attachment n false ids) d = of_each (with_nsids (more n ids)) (λ x. refl) s.controllers d
-effect_mdts s c (SetFeature x) d =
-    elim (feature_of x.fid) as (λ o. mdts_of (option_map_or (λ f. with_controller s c
-    (with_values f x.value x.save (changed_nsids s c x.nsid f))) o s) d ≡ mdts_of s d) [
-      | None ↦ refl
-      | Some f ↦ of_one (with_values f x.value x.save (changed_nsids s c x.nsid f)) (λ y. refl) s.controllers c d
-    ]
-effect_mdts s c k d = refl
+effect_mdts s c k d = grind (arith, common_steps, of_each, of_one)
 
 -- a step, refused or not, doesn't change MDTS
 step_mdts : (o : Option Refusal) (s : State) (c : ℕ) (k : Command) (cid d : ℕ)

@@ -103,6 +103,32 @@ controllers_with ns n x cs all =
     = λ q t. grind (arith, contains-insert ns n x q, is.attached q t) in
     assumption) cs all
 
+-- a namespace that fits a well-formed subsystem, and leaves its capacities within the total, may get an NSID
+pub inserted_keeps : (s : State) (n : ℕ) (x : Namespace) → IsWellFormed s
+    → IsNamespace (record s { namespaces = map_of.insert s.namespaces n x }) n x
+    → used (map_of.insert s.namespaces n x) ≤ s.tnvmcap
+    → IsWellFormed (record s { namespaces = map_of.insert s.namespaces n x })
+inserted_keeps s n x well is few = record {
+  keys = well.keys;
+  format_count = well.format_count;
+  formats = well.formats;
+  controller_count = well.controller_count;
+  controllers = controllers_with s.namespaces n x s.controllers well.controllers;
+  cntlids = well.cntlids;
+  namespaces = λ q y at. named q y (q == n) refl (sym (get_of_insert s.namespaces n x q) ∙ at);
+  capacities = few;
+}
+  where
+    named : (q : ℕ) (y : Namespace) (t : Bool) → (q == n) ≡ t
+        → cond t (Some x) (map_of.get s.namespaces q) ≡ Some y
+        → IsNamespace (record s { namespaces = map_of.insert s.namespaces n x }) q y
+    named q y true t at =
+        let here : n ≡ q = grind (arith, nat_tests) in
+        let same : x ≡ y = cc at in
+        let to = record s { namespaces = map_of.insert s.namespaces n x } in
+        subst (λ m. IsNamespace to m y) here (subst (IsNamespace to n) same is)
+    named q y false t at = assumption (well.namespaces q y at)
+
 -- a create with a free NSID or with none, if no row refuses it, leaves the subsystem well formed
 create_by : (s : State) (w : NewNamespace) (o : Option ℕ) → free_nsid s ≡ o → IsWellFormed s
     → first_refusal (create_rows s w) ≡ None
@@ -113,51 +139,20 @@ create_by s w (Some n) e well accepted =
     let free = free_is s n e in
     let rows = none_holds (create_rows s w) accepted in
     let x = new_namespace s w in
-    let fits : bytes_needed s w ≤ unallocated s = room rows.1.1.1.1.1.1.1.0 in
-    let some : 0 < w.nsze = blocks rows.1.1.0 in
-    let to : Namespaces = map_of.insert s.namespaces n x in
-    record {
-      keys = well.keys;
-      format_count = well.format_count;
-      formats = well.formats;
-      controller_count = well.controller_count;
-      controllers = controllers_with s.namespaces n x s.controllers well.controllers;
-      cntlids = well.cntlids;
-      namespaces = λ q y at. named q y (q == n) refl (sym (get_of_insert s.namespaces n x q) ∙ at);
-      capacities = omega (
-        arith,
-        fits,
-        used-insert s.namespaces n x
-            (none_of (map_of.get s.namespaces n) free.1),
-        well.capacities,
-      );
-    }
+    let fits = room rows.1.1.1.1.1.1.1.0 in
+    inserted_keeps s n x well (record {
+      nsid = (omega (arith, free.0.0), omega (arith, free.0.1));
+      format = in_format s.mc (bytes_needed s w) w.nsze (bit_and w.flbas 0xf) (is_extended w.flbas) x.shared
+          (format_at s (format_index w.flbas)) rows.0 (blocks rows.1.1.0) refl (omega (arith, fits, well.keys.tnvmcap));
+      private = λ p. omega (arith, none_attached s n well free.1);
+    })
+    (omega (arith, fits, used-insert s.namespaces n x (none_of (map_of.get s.namespaces n) free.1), well.capacities))
   where
     room : nat_lt (unallocated s) (bytes_needed s w) ≡ false → bytes_needed s w ≤ unallocated s
     room h = grind (arith, nat_tests)
 
     blocks : (w.nsze == 0) ≡ false → 0 < w.nsze
     blocks h = grind (arith, nat_tests)
-
-    named : (q : ℕ) (y : Namespace) (t : Bool) → (q == n) ≡ t
-        → cond t (Some (new_namespace s w)) (map_of.get s.namespaces q) ≡ Some y
-        → IsNamespace
-        (record s { namespaces = map_of.insert s.namespaces n (new_namespace s w) }) q y
-    named q y true is at =
-        let here : q ≡ n = grind (arith, nat_tests) in
-        let same : new_namespace s w ≡ y = cc at in
-        let free = free_is s n e in
-        let rows = none_holds (create_rows s w) accepted in
-        let fits = room rows.1.1.1.1.1.1.1.0 in
-        subst (IsNamespace _ q) same (record {
-          nsid = (omega (arith, free.0.0), omega (arith, free.0.1));
-          format = in_format s.mc (bytes_needed s w) w.nsze (bit_and w.flbas 0xf)
-              (is_extended w.flbas) (new_namespace s w).shared (format_at s (format_index w.flbas))
-              rows.0
-              (blocks rows.1.1.0) refl (omega (arith, fits, well.keys.tnvmcap));
-          private = λ p. omega (arith, none_attached s q well (ap (is_allocated s) here ∙ free.1));
-        })
-    named q y false is at = assumption (well.namespaces q y at)
 
 -- a create that isn't refused leaves a well-formed subsystem well formed
 pub create_keeps : (s : State) (w : NewNamespace) → IsWellFormed s
@@ -179,21 +174,13 @@ pub record AreAttached (s : State) (change : Controller → Attached) (to : Name
 -- a change of what is attached that AreAttached allows leaves the subsystem well formed
 pub attached_keep : (s : State) (change : Controller → Attached) (to : Namespaces) → IsWellFormed s
     → AreAttached s change to → IsWellFormed (record (with_attached s change) { namespaces = to })
-attached_keep s change to w are = record {
-  keys = w.keys;
-  format_count = w.format_count;
-  formats = w.formats;
-  controller_count = subst (λ n. (1 ≤ n) × (n ≤ 16))
-      (sym (length-map s.controllers (with_nsids change))) w.controller_count;
-  controllers = All-map (IsController to) (with_nsids change) s.controllers
+attached_keep s change to w are = assumption (
+  subst (λ n. (1 ≤ n) × (n ≤ 16)) (sym (length-map s.controllers (with_nsids change))) w.controller_count,
+  All-map (IsController to) (with_nsids change) s.controllers
       (All-weaker (IsController s.namespaces) (λ x. IsController to (with_nsids change x))
-      (λ x is. assumption (are.allocated x is, are.values x is))
-      s.controllers w.controllers);
-  cntlids = pairs_map (λ x y. x.identity.cntlid ≢ y.identity.cntlid)
-      (with_nsids change) s.controllers w.cntlids;
-  namespaces = are.namespaces;
-  capacities = are.capacities;
-}
+      (λ x is. assumption (are.allocated x is, are.values x is)) s.controllers w.controllers),
+  pairs_map (λ x y. x.identity.cntlid ≢ y.identity.cntlid) (with_nsids change) s.controllers w.cntlids,
+)
 
 -- a number that is left after a removal was there before, and is another one
 pub left : {A : Type 0} (m : NumberMap A) (n q : ℕ) → map_of.contains_key (map_of.remove m n) q

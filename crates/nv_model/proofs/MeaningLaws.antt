@@ -2,7 +2,7 @@
 use Rattle.std.proofs.Common.{◌≡◌, ℕ, ◌≤◌, ◌==◌, arith, refl, [], true, List, Option, Some, None, is_some, length}
 use Rattle.std.proofs.Common.{rules}
 use Rattle.std.specs.FinMap as map_of
-use Rattle.nv_command.specs.LogPage.{log_asked, log_kind}
+use Rattle.nv_command.specs.LogPage.{log_kind}
 use Rattle.nv_command.specs.declared.log_page.LogPage.{LogPage}
 use Rattle.nv_command.specs.declared.log_page.LogPage.TheVariants.{ErrorInformation, Health}
 use Rattle.nv_command.specs.declared.command.Command.TheVariants.{IdentifyController, IdentifyNamespace}
@@ -90,62 +90,24 @@ tells kind rows reply refuse is fits = assumption
 
 -- the meaning of each command is sound
 pub sound : (k : Command) → IsSound (form_of k).reply (meaning_of k)
-sound IdentifyController =
-    tells _ _ _ (λ s c. tt) (λ s c. refl)
-    (λ s c w. id_ctrl_fits s w (controller_at s c) (is_controller s c w))
+sound IdentifyController = search (rules, id_ctrl_fits, is_controller)
 sound (IdentifyNamespace n) =
     tells _ _ _ (λ s c. (is_refusal-refusal_by InvalidNamespaceOrFormat, tt)) (λ s c. refl)
     (λ s c w. chosen_fits IdNsFits (n == broadcast_nsid) _ _
     (common_fits s.formats s.mc w.keys.mc w.format_count.1 w.formats)
     (chosen_fits IdNsFits (is_active s c n) _ _
     (allocated_fits s w n (map_of.get s.namespaces n) refl) blank_fits))
-sound (AllocatedNamespace n) =
-    tells _ _ _ (λ s c. (is_refusal-refusal_by InvalidNamespaceOrFormat, tt)) (λ s c. refl)
-    (λ s c w. allocated_fits s w n (map_of.get s.namespaces n) refl)
-sound (ActiveList after) =
-    tells _ _ _ (λ s c. (is_refusal-refusal_by InvalidNamespaceOrFormat, tt)) (λ s c. refl)
-    (λ s c w. list_fits s after w (controller_at s c) (is_controller s c w))
+sound (AllocatedNamespace n) = search (rules, is_refusal-refusal_by, allocated_fits)
+sound (ActiveList after) = search (rules, is_refusal-refusal_by, list_fits, is_controller)
 sound (AllocatedList after) =
     tells _ _ _ (λ s c. (is_refusal-refusal_by InvalidNamespaceOrFormat, tt)) (λ s c. refl)
     (λ s c w. keys_fit after s.nn s.namespaces w.keys.nn.1
     (λ n t. inside s w n (map_of.get s.namespaces n) refl t))
-sound (GetFeature q) =
-    tells _ _ _ (λ s c. get_feature_rows_fit s c q) (λ s c. refl) (λ s c w. feature_number_fits s c q w)
-sound (GetLog q) =
-    tells _ _ _ (λ s c. log_rows_fit s c q) (λ s c. is_log_reply s c (log_asked q.lid))
-    (λ s c w. logs_fit s c (log_asked q.lid) (is_controller s c w))
-sound (Create x) = record {
-  rows = λ s c. create_rows_fit s x;
-  is_reply = λ s c. refl;
-  fits = λ s c w. created_nsid_fits s w.keys.nn.1;
-  keeps = λ s c accepted w. create_keeps s x w accepted;
-  controllers = λ s c. created_controllers s x;
-}
-sound (Delete n) = record {
-  rows = λ s c. delete_rows_fit s n;
-  is_reply = λ s c. refl;
-  fits = λ s c w. tt;
-  keeps = λ s c accepted w. delete_keeps s n w;
-  controllers = λ s c. deleted_controllers s n;
-}
-sound (Attachment n detach ids) = record {
-  rows = λ s c. attachment_rows_fit s n detach ids;
-  is_reply = λ s c. refl;
-  fits = λ s c w. tt;
-  keeps = λ s c accepted w. attachment_keeps s n detach ids w accepted;
-  controllers = λ s c. attachment_controllers s n detach ids;
-}
-sound (Format f) = record {
-  rows = λ s c. format_rows_fit s c f;
-  is_reply = λ s c. refl;
-  fits = λ s c w. tt;
-  keeps = λ s c accepted w. format_keeps s c f w accepted;
-  controllers = λ s c. refl;
-}
-sound (SetFeature x) = record {
-  rows = λ s c. set_feature_rows_fit s c x;
-  is_reply = λ s c. refl;
-  fits = λ s c w. tt;
-  keeps = λ s c accepted w. feature_keeps s c x w accepted;
-  controllers = λ s c. feature_controllers s c x;
-}
+sound (GetFeature q) = search (rules, get_feature_rows_fit, feature_number_fits)
+sound (GetLog q) = search (rules, log_rows_fit, is_log_reply, logs_fit, is_controller)
+sound (Create x) =
+    search (rules, create_rows_fit, created_nsid_fits, create_keeps, created_controllers)
+sound (Delete n) = search (rules, delete_rows_fit, delete_keeps, deleted_controllers)
+sound (Attachment n detach ids) = search (rules, attachment_rows_fit, attachment_keeps, attachment_controllers)
+sound (Format f) = search (rules, format_rows_fit, format_keeps)
+sound (SetFeature x) = search (rules, set_feature_rows_fit, feature_keeps, feature_controllers)

@@ -1,5 +1,5 @@
 -- What requests leave, one after another.
-use Rattle.std.proofs.Common.{◌≡◌, ◌∙◌, ◌++◌, ℕ, ◌<◌, ◌≤◌, List, ap, arith, length, refl, subst, sym, take, true}
+use Rattle.std.proofs.Common.{◌≡◌, ◌∙◌, ◌++◌, ℕ, ◌<◌, ◌≤◌, List, ap, arith, false, length, refl, subst, sym, take, true}
 use Rattle.std.proofs.Math.Seq.{take-append_seam}
 use Rattle.nv_layout.specs.declared.cqe.Status.{Status}
 use Rattle.nv_layout.specs.declared.sqe.Sqe.{Sqe}
@@ -11,22 +11,21 @@ use Rattle.nv_driver.specs.Alone.{IsReceived, asked_in, entry_step}
 use Rattle.nv_driver.specs.Driver.{after_command, after_reset as driver_reset, pair_at}
 use Rattle.nv_driver.specs.Settled.{DriverValue}
 use Rattle.nv_driver.proofs.LinkedLaws.{next_cid_is, cids_after, cids_reset}
-use Rattle.nv_serve.specs.Answer.{Answer}
-use Rattle.nv_serve.specs.Serving.{IsAnswerByKind, IsAnswerIf, IsAnswerToHeader, IsReturned, Point, after_entry}
-use Rattle.nv_serve.specs.Serving.{after_header, after_if, after_kind, after_reset, has_controller, point, returned}
-use Rattle.nv_serve.specs.Handling.{Calls, Does, DoesKind, kind_done}
+use Rattle.nv_serve.specs.Answer.{Answer, bare}
+use Rattle.nv_serve.specs.Serving.{IsAnswerByKind, IsAnswerIf, IsBare, IsReturned, after_entry}
+use Rattle.nv_serve.specs.Serving.{after_if, after_kind, after_reset, has_controller, point, returned}
+use Rattle.nv_serve.specs.Handling.{Calls, DoesKind, kind_done}
 use Rattle.nv_serve.specs.declared.answer.AnswerHeader.{AnswerHeader}
+use Rattle.nv_serve.specs.declared.answer.Outcome.{Outcome}
+use Rattle.nv_serve.specs.declared.answer.Outcome.TheVariants.{NoController}
 use Rattle.nv_serve.specs.declared.header.Header.{Header}
+use Rattle.nv_serve.specs.declared.header.Kind.{Kind}
 use Rattle.nv_serve.specs.declared.header.Kind.TheVariants.{Unknown}
+use Rattle.nv_serve.specs.inner.Answer.{answer}
+use Rattle.nv_serve.specs.inner.Handling.{IsHandled}
 use Rattle.nv_serve.specs.inner.Serving.{point_of}
 use Rattle.nv_driver.specs.inner.Linked.{next_cids_of}
 use Rattle.std.proofs.lemmas.List.{length-map}
-
--- the controller of a header is one of a driver's
-there : (b : BusValue) (d : DriverValue) (h : Header) → h.controller < length d.pairs
-    → has_controller (point_of b d) h ≡ true
-there b d h below =
-    let in_point : h.controller < length (next_cids_of d) = rw (length-map d.pairs _) below in grind arith
 
 -- an entry that the driver sent leaves the point after that entry
 pub sent_on : (b b' : BusValue) (d : DriverValue) {d' : DriverValue} (c : ℕ) (e : Sqe) (bytes : List ℕ)
@@ -43,20 +42,6 @@ pub reset_on : (b b' : BusValue) (d : DriverValue) {d' : DriverValue} (c : ℕ) 
     → d' ≡ driver_reset d c → point_of b' d' ≡ after_reset (point_of b d) c
 reset_on b b' d {d'} c state driver =
     let next = cids_reset d d' c driver in λ i. point (state i) (next i)
-
--- the point after a header whose controller exists is the one after a request of its kind
-pub left_by : (b : BusValue) (d : DriverValue) (h : Header) (bytes : List ℕ) {after : Point}
-    → h.controller < length d.pairs → after ≡ after_kind h.kind (point_of b d) h bytes
-    → after ≡ after_header (point_of b d) h bytes
-left_by b d h bytes {after} below is =
-    subst (λ x. after ≡ after_if x (point_of b d) h bytes) (sym (there b d h below)) is
-
--- and this is its answer
-pub answered_by : (b : BusValue) (d : DriverValue) (h : Header) (bytes : List ℕ) (a : Answer)
-    → h.controller < length d.pairs → IsAnswerByKind h.kind (point_of b d) h bytes a
-    → IsAnswerToHeader (point_of b d) h bytes a
-answered_by b d h bytes a below is =
-    subst (λ x. IsAnswerIf x (point_of b d) h bytes a) (sym (there b d h below)) is
 
 -- what the driver returned for an entry is the completion and the data of its step
 pub returned_by : (b : BusValue) (d : DriverValue) (c : ℕ) (e : Sqe) (bytes : List ℕ)
@@ -80,17 +65,39 @@ pub front_is : {a : AnswerHeader} {out : List ℕ} (rest : List ℕ) {dword0 n :
 front_is {out = out} rest is full = ap (λ (h : AnswerHeader). take h.length (out ++ rest)) is
     ∙ ap (λ n. take n (out ++ rest)) (sym full) ∙ take-append_seam out rest
 
--- a driver does what a request of this kind says if its controller exists
-pub does_kind : {B : Type 0} (k : Calls B) (d : DriverValue) (h : Header) (bytes : List ℕ) (a : Answer) (old : B)
-    (d' : DriverValue) (new : B) → h.controller < length d.pairs → DoesKind k h.kind d h bytes a old d' new
-    → Does k d h bytes a old d' new
-does_kind k d h bytes a old d' new below done =
-    let there : kind_done d h ≡ h.kind = grind arith in
-    subst (λ x. DoesKind k x d h bytes a old d' new) (sym there) done
+-- a bare header has no data behind it
+pub bare_is : {o : Outcome} {a : AnswerHeader} (received : List ℕ) → a ≡ bare o
+    → IsBare (answer a (take a.length received)) (bare o)
+bare_is received is = (is, ap (λ (a : AnswerHeader). take a.length received) is)
 
--- and nothing if it doesn't
-pub does_nothing : {B : Type 0} (k : Calls B) (d : DriverValue) (h : Header) (bytes : List ℕ) (a : Answer) (old : B)
-    → length d.pairs ≤ h.controller → Does k d h bytes a old d old
-does_nothing k d h bytes a old above =
-    let none : kind_done d h ≡ Unknown = grind arith in
-    subst (λ x. DoesKind k x d h bytes a old d old) (sym none) (refl, refl)
+module _ {B : Type 0} (k : Calls B) (d : DriverValue) (h : Header) (bytes : List ℕ) (a : Answer) (old : B) where
+  -- what a header says was done and answered if its controller exists and this was done and answered by its kind
+  pub handled_by : {kind : Kind} (d' : DriverValue) (new : B) → h.controller < length d.pairs → h.kind ≡ kind
+      → IsAnswerByKind kind (point_of (k.meaning old) d) h bytes a
+      → point_of (k.meaning new) d' ≡ after_kind kind (point_of (k.meaning old) d) h bytes
+      → DoesKind k kind d h bytes a old d' new → IsHandled k h bytes a d old d' new
+  handled_by {kind} d' new below is said reached done =
+      let p = point_of (k.meaning old) d in
+      let within : h.controller < length (next_cids_of d) = rw (length-map d.pairs _) below in
+      let there : has_controller p h ≡ true = grind arith in
+      let does : kind_done d h ≡ h.kind = grind arith in
+      record {
+        answer = subst (λ x. IsAnswerIf x p h bytes a) (sym there)
+            (subst (λ x. IsAnswerByKind x p h bytes a) (sym is) said);
+        reached = subst (λ x. point_of (k.meaning new) d' ≡ after_if x p h bytes) (sym there)
+            (subst (λ x. point_of (k.meaning new) d' ≡ after_kind x p h bytes) (sym is) reached);
+        steps = subst (λ x. DoesKind k x d h bytes a old d' new) (sym (does ∙ is)) done;
+      }
+
+  -- if its controller doesn't exist, nothing may be done, and the answer says so
+  pub not_handled : length d.pairs ≤ h.controller → IsBare a (bare NoController) → IsHandled k h bytes a d old d old
+  not_handled above said =
+      let p = point_of (k.meaning old) d in
+      let past : length (next_cids_of d) ≤ h.controller = rw (length-map d.pairs _) above in
+      let none : has_controller p h ≡ false = grind arith in
+      let does : kind_done d h ≡ Unknown = grind arith in
+      record {
+        answer = subst (λ x. IsAnswerIf x p h bytes a) (sym none) said;
+        reached = subst (λ x. p ≡ after_if x p h bytes) (sym none) refl;
+        steps = subst (λ x. DoesKind k x d h bytes a old d old) (sym does) (refl, refl);
+      }

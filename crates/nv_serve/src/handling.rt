@@ -3,15 +3,13 @@
 ghost use Rattle.std.specs.Prelude.{◌≡◌, ◌<◌, ◌≤◌, IfOk, IsOk, length, take};
 ghost use Rattle.nv_layout.specs.Sqe.{SqeFits};
 ghost use Rattle.nv_driver.specs.BringingUp.{Still};
-ghost use Rattle.nv_driver.specs.Driver.{HasEntryPages, after_command};
+ghost use Rattle.nv_driver.specs.Driver.{HasEntryPages};
 ghost use Rattle.nv_driver.specs.Linked.{IsLinked};
-ghost use Rattle.nv_driver.specs.Sending.{Passes};
-ghost use Rattle.nv_bus.specs.declared.command_result.CommandResult.{CommandResult};
-ghost use Rattle.nv_serve.specs.Handling.{Does, DoesKind, calls};
-ghost use Rattle.nv_serve.specs.Header.{most_data, wanted_length};
-ghost use Rattle.nv_serve.specs.Serving.{IsAnswerByKind, IsAnswerToHeader, IsReturned, after_entry, after_header};
-ghost use Rattle.nv_serve.specs.Serving.{after_kind, list_entry, returned};
-ghost use Rattle.nv_serve.specs.inner.Serving.{point_of};
+ghost use Rattle.nv_serve.specs.Handling.{calls};
+ghost use Rattle.nv_serve.specs.Header.{most_data};
+ghost use Rattle.nv_serve.specs.Serving.{list_entry};
+ghost use Rattle.nv_serve.specs.inner.Answer.{answer};
+ghost use Rattle.nv_serve.specs.inner.Handling.{IsHandled, IsPassed};
 
 use crate::answer::{AnswerHeader, Outcome};
 use crate::header::{Header, Kind};
@@ -30,7 +28,7 @@ fn list_entry() -> Sqe
 
 /// Passes an entry through to the controller of a request, and returns the header of its answer. The
 /// data for the host is at the front of a buffer.
-fn pass<B: Bus + Ringing>(
+fn pass<B: Bus + Zeroing + Ringing>(
     bus: &mut B,
     driver: &mut Driver,
     header: &Header,
@@ -44,17 +42,11 @@ fn pass<B: Bus + Ringing>(
     requires fits { SqeFits entry.now }
     requires few { header.now.length ≤ most_data }
     requires long { length received.old ≡ most_data }
-    ensures answer { (command_result : CommandResult) × IsReturned (point_of (B.meaning bus.old) driver.old)
-        header.now.controller entry.now sent.now (wanted_length header.now) command_result
-        (take result.length received.new)
-        × (result ≡ returned command_result.dword0 command_result.status (wanted_length header.now)) }
-    ensures reached { point_of (B.meaning bus.new) driver.new ≡ after_entry
-        (point_of (B.meaning bus.old) driver.old) header.now.controller entry.now sent.now }
+    ensures passed { IsPassed
+        (calls B.meaning B.was_written (Still B.was_read) B.was_zeroed B.was_rung B.was_turned)
+        header.now entry.now sent.now (answer result (take result.length received.new))
+        driver.old bus.old driver.new bus.new }
     ensures linked { IsLinked (B.meaning bus.new) driver.new }
-    ensures driver { driver.new ≡ after_command driver.old header.now.controller }
-    ensures steps { Passes B.was_written B.was_rung B.was_turned
-        driver.old header.now.controller entry.now sent.now result.status
-        (take result.length received.new) (B.meaning bus.old) bus.old bus.new }
     ensures room { HasEntryPages driver.new }
     ensures few { result.length ≤ most_data }
     ensures long { length received.new ≡ most_data }
@@ -63,54 +55,6 @@ fn pass<B: Bus + Ringing>(
     let out = &mut received[..wanted as usize];
     let command_result = driver.passthrough(bus, header.controller, entry, sent, out);
     AnswerHeader::returned(command_result.dword0, command_result.status, wanted)
-}
-
-/// Does what a request's header says, whose controller exists, with the data that the host sent. The
-/// data for the host is at the front of a buffer. The only error is `NoReady`, which no bus that keeps
-/// its contract returns.
-fn perform<B: Bus + Zeroing + Ringing>(
-    bus: &mut B,
-    driver: &mut Driver,
-    header: &Header,
-    sent: &[u8],
-    received: &mut [u8],
-) -> Result<AnswerHeader, DriverError>
-    requires linked { IsLinked (B.meaning bus.old) driver.old }
-    requires room { HasEntryPages driver.old }
-    requires ctrl { header.now.controller < length driver.old.pairs }
-    requires fits { SqeFits header.now.entry }
-    requires few { header.now.length ≤ most_data }
-    requires long { length received.old ≡ most_data }
-    ensures answer { IfOk result (λ answer. IsAnswerByKind header.now.kind
-        (point_of (B.meaning bus.old) driver.old) header.now sent.now
-        (record { header = answer; payload = take answer.length received.new })) }
-    ensures ready { IsOk result }
-    ensures reached { point_of (B.meaning bus.new) driver.new ≡ after_kind header.now.kind
-        (point_of (B.meaning bus.old) driver.old) header.now sent.now }
-    ensures linked { IsLinked (B.meaning bus.new) driver.new }
-    ensures steps { IfOk result (λ answer. DoesKind
-        (calls B.meaning B.was_written (Still B.was_read) B.was_zeroed B.was_rung B.was_turned)
-        header.now.kind driver.old header.now sent.now
-        (record { header = answer; payload = take answer.length received.new })
-        bus.old driver.new bus.new) }
-    ensures room { HasEntryPages driver.new }
-    ensures few { IfOk result (λ answer. answer.length ≤ most_data) }
-    ensures long { length received.new ≡ most_data }
-{
-    match header.kind {
-        Kind::Entry => Ok(pass(bus, driver, header, &header.entry, sent, received)),
-        Kind::Reset => {
-            driver.reset(bus, header.controller)?;
-            Ok(AnswerHeader::bare(Outcome::Answered))
-        }
-        Kind::List => {
-            let controllers = driver.controllers();
-            let mut answer = pass(bus, driver, header, &list_entry(), &[], received);
-            answer.dword0 = controllers as u32;
-            Ok(answer)
-        }
-        Kind::Unknown => Ok(AnswerHeader::bare(Outcome::NoKind)),
-    }
 }
 
 /// Does what a request's header says, with the data that the host sent. The data for the host is at
@@ -127,23 +71,31 @@ pub(crate) fn handle<B: Bus + Zeroing + Ringing>(
     requires fits { SqeFits header.now.entry }
     requires few { header.now.length ≤ most_data }
     requires long { length received.old ≡ most_data }
-    ensures answer { IfOk result (λ answer. IsAnswerToHeader (point_of (B.meaning bus.old) driver.old)
-        header.now sent.now (record { header = answer; payload = take answer.length received.new })) }
-    ensures ready { IsOk result }
-    ensures reached { point_of (B.meaning bus.new) driver.new ≡ after_header
-        (point_of (B.meaning bus.old) driver.old) header.now sent.now }
-    ensures linked { IsLinked (B.meaning bus.new) driver.new }
-    ensures steps { IfOk result (λ answer. Does
+    ensures handled { IfOk result (λ returned. IsHandled
         (calls B.meaning B.was_written (Still B.was_read) B.was_zeroed B.was_rung B.was_turned)
-        driver.old header.now sent.now
-        (record { header = answer; payload = take answer.length received.new })
-        bus.old driver.new bus.new) }
+        header.now sent.now (answer returned (take returned.length received.new))
+        driver.old bus.old driver.new bus.new) }
+    ensures ready { IsOk result }
+    ensures linked { IsLinked (B.meaning bus.new) driver.new }
     ensures room { HasEntryPages driver.new }
-    ensures few { IfOk result (λ answer. answer.length ≤ most_data) }
+    ensures few { IfOk result (λ returned. returned.length ≤ most_data) }
     ensures long { length received.new ≡ most_data }
 {
-    if usize::from(header.controller) >= driver.controllers() {
+    let controllers = driver.controllers();
+    if usize::from(header.controller) >= controllers {
         return Ok(AnswerHeader::bare(Outcome::NoController));
     }
-    perform(bus, driver, header, sent, received)
+    match header.kind {
+        Kind::Entry => Ok(pass(bus, driver, header, &header.entry, sent, received)),
+        Kind::Reset => {
+            driver.reset(bus, header.controller)?;
+            Ok(AnswerHeader::bare(Outcome::Answered))
+        }
+        Kind::List => {
+            let mut answer = pass(bus, driver, header, &list_entry(), &[], received);
+            answer.dword0 = controllers as u32;
+            Ok(answer)
+        }
+        Kind::Unknown => Ok(AnswerHeader::bare(Outcome::NoKind)),
+    }
 }

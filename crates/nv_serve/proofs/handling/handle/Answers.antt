@@ -1,44 +1,43 @@
-use Rattle.std.proofs.Common.{◌<◌, arith, length, take}
-use Rattle.std.proofs.lemmas.Result.{IfOk-weaker}
-use Rattle.nv_driver.specs.BringingUp.{Still}
-use Rattle.nv_serve.specs.Handling.{Calls, calls}
-use Rattle.nv_serve.specs.inner.Answer.{answer}
-use Rattle.nv_serve.proofs.ServingLaws.{answered_by, does_kind, does_nothing, left_by}
-use Rattle.nv_serve.proofs.handling.handle.Given.{Over}
-use Rattle.nv_serve.proofs.handling.handle.Goals.{After-perform}
+use Rattle.std.proofs.Common.{◌≡◌, ◌∙◌, ap, arith, length, refl, sym}
+use Rattle.std.proofs.lemmas.List.{length-map}
+use Rattle.nv_driver.specs.inner.Linked.{next_cids_of}
+use Rattle.nv_serve.specs.Header.{wanted_length}
+use Rattle.nv_serve.specs.Serving.{returned}
+use Rattle.nv_serve.specs.declared.answer.AnswerHeader.{AnswerHeader}
+use Rattle.nv_serve.proofs.ServingLaws.{bare_is, handled_by, not_handled, reset_on}
 use Rattle.nv_serve.proofs.handling.handle.Goals as goal
 
--- what is said of the calls of the bus
-abbrev its_calls : (g : Over) → Calls g.row.B.Denot
-its_calls g =
-    calls g.B.Bus.meaning g.B.Bus.was_written (Still g.B.Bus.was_read) g.B.Zeroing.was_zeroed g.B.Ringing.was_rung
-    g.B.Bus.was_turned
+pub returns-then-from-controllers-clause-handled : goal.returns-then-from-controllers-clause-handled
+returns-then-from-controllers-clause-handled g c =
+    not_handled _ _ _ _ _ _ (omega arith) (bare_is c.args.received.now c.bare.ensures)
 
--- the controller exists
-there : (g : Over) (c : goal.After-perform g) → c.args.header.now.controller < length c.args.driver.now.pairs
-there g c = omega (arith, c.if-from-controllers.false, c.from.ensures, c.controllers.ensures)
+pub returns-in-Entry-clause-handled : goal.returns-in-Entry-clause-handled
+returns-in-Entry-clause-handled g c =
+    let p = c.pass.ensures.passed in
+    handled_by _ _ _ _ _ _ _ _ (omega arith) c.in-Entry.is (p.command_result, p.came, p.header) p.reached p.steps
 
-pub returns-clause-answer : goal.returns-clause-answer
-returns-clause-answer g c =
-    let below = there g (goal.at.returns-clause-answer g c).After-perform in
-    IfOk-weaker c.perform.result _ _ (λ a is. answered_by (g.B.Bus.meaning c.args.bus.now) c.args.driver.now
-    c.args.header.now c.args.sent.now (answer a (take a.length c.perform.new.received)) below is)
-    c.perform.ensures.answer
+pub returns-in_ok-reset-in-Reset-clause-handled : goal.returns-in_ok-reset-in-Reset-clause-handled
+returns-in_ok-reset-in-Reset-clause-handled g c =
+    let e = c.reset.ensures in
+    handled_by _ _ _ _ _ _ _ _ (omega arith) c.in-Reset.is (bare_is c.args.received.now c.bare-in-Reset.ensures)
+    (reset_on (g.B.Bus.meaning c.args.bus.now) (g.B.Bus.meaning c.reset.new.bus) c.args.driver.now
+    c.args.header.now.controller e.state e.driver)
+    (e.driver, e.steps.0, e.steps.1, e.steps.2)
 
-pub returns-clause-reached : goal.returns-clause-reached
-returns-clause-reached g c =
-    left_by (g.B.Bus.meaning c.args.bus.now) c.args.driver.now c.args.header.now c.args.sent.now
-    (there g (goal.at.returns-clause-reached g c).After-perform) c.perform.ensures.reached
+pub returns-in-List-clause-handled : goal.returns-in-List-clause-handled
+returns-in-List-clause-handled g c =
+    let controllers = c.controllers-controllers in
+    let many : controllers.result ≡ length (next_cids_of c.args.driver.now) =
+    controllers.ensures ∙ sym (length-map c.args.driver.now.pairs _) in
+    let p = rw c.list_entry.ensures.value at c.pass-answer.ensures.passed in
+    handled_by _ _ _ _ _ _ _ _ (omega arith) c.in-List.is (
+      p.command_result,
+      p.came,
+      ap (λ (h : AnswerHeader). record h { dword0 = controllers.result }) p.header
+          ∙ ap (λ n. returned n p.command_result.status (wanted_length c.args.header.now)) many,
+    ) p.reached p.steps
 
-pub returns-clause-steps : goal.returns-clause-steps
-returns-clause-steps g c =
-    let below = there g (goal.at.returns-clause-steps g c).After-perform in
-    let new = c.perform.new in
-    IfOk-weaker c.perform.result _ _ (λ a does. does_kind (its_calls g) c.args.driver.now c.args.header.now
-    c.args.sent.now (answer a (take a.length new.received)) c.args.bus.now new.driver new.bus below does)
-    c.perform.ensures.steps
-
-pub returns-then-from-controllers-clause-steps : goal.returns-then-from-controllers-clause-steps
-returns-then-from-controllers-clause-steps g c =
-    does_nothing (its_calls g) c.args.driver.now c.args.header.now c.args.sent.now _ c.args.bus.now
-    (omega (arith, c.if-from-controllers.true, c.from.ensures, c.controllers.ensures))
+pub returns-in-Unknown-clause-handled : goal.returns-in-Unknown-clause-handled
+returns-in-Unknown-clause-handled g c =
+    handled_by _ _ _ _ _ _ _ _ (omega arith) c.in-Unknown.is (bare_is c.args.received.now c.bare-in-Unknown.ensures)
+    refl (refl, refl)

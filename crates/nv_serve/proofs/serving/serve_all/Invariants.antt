@@ -3,11 +3,10 @@ use Rattle.nv_driver.specs.BringingUp.{Still}
 use Rattle.nv_driver.specs.Driver.{HasEntryPages}
 use Rattle.nv_driver.specs.Linked.{IsLinked}
 use Rattle.nv_serve.specs.Answer.{Answer}
-use Rattle.nv_serve.specs.Handling.{DoesAll, calls}
+use Rattle.nv_serve.specs.Handling.{calls}
 use Rattle.nv_serve.specs.Header.{Request, most_data}
 use Rattle.nv_serve.specs.inner.Reading.{IsReady}
 use Rattle.nv_serve.specs.Served.{HasTaken}
-use Rattle.nv_serve.specs.inner.Serving.{point_of}
 use Rattle.nv_serve.proofs.ServedLaws.{Stands}
 use Rattle.nv_serve.proofs.serving.serve_all.Given as goal
 
@@ -21,11 +20,9 @@ invariant-loop g l = record {
   linked : IsLinked (g.B.Bus.meaning l.bus) l.driver;
   room : HasEntryPages l.driver;
   stands : (requests : List Request) × (answers : List Answer)
-      × Stands (point_of (g.B.Bus.meaning l.initial.bus) l.initial.driver)
-      (point_of (g.B.Bus.meaning l.bus) l.driver)
+      × Stands (calls g.B.Bus.meaning g.B.Bus.was_written (Still g.B.Bus.was_read) g.B.Zeroing.was_zeroed
+      g.B.Ringing.was_rung g.B.Bus.was_turned) l.initial.driver l.driver l.initial.bus l.bus
       (g.R.Source.state l.initial.source) (g.R.Source.state l.source) requests answers
       × HasTaken (g.O.Sink.state l.initial.out) (g.O.Sink.state l.out) answers
-      × (length requests ≡ l.counter)
-      × DoesAll (calls g.B.Bus.meaning g.B.Bus.was_written (Still g.B.Bus.was_read) g.B.Zeroing.was_zeroed
-      g.B.Ringing.was_rung g.B.Bus.was_turned) l.initial.driver requests answers l.initial.bus l.driver l.bus;
+      × (length requests ≡ l.counter);
 }
