@@ -1,16 +1,15 @@
 -- Whatever is accepted is shown.
-use Rattle.nv_script.proofs.Words.{[], ℕ, ◌++◌, ◌∙◌, ◌∷◌, ◌≡◌, ◌≤◌, Act, Ask, Bool, Command, Controller, Err, Exchange}
-use Rattle.nv_script.proofs.Words.{List, Listing, None, Ok, Order, Outcome, Query, Refusal, Reply, Result, Send, Shown}
-use Rattle.nv_script.proofs.Words.{State, Status, above, active_nsids, answer_received, ap, append-nil, append_assoc}
-use Rattle.nv_script.proofs.Words.{arith, common_steps, exchange_by, exchange_of, false, flat_map, get_or}
-use Rattle.nv_script.proofs.Words.{if◌then◌else◌, length, listing_of, listing_after, map, map-append, nat_lt}
-use Rattle.nv_script.proofs.Words.{no_listing}
-use Rattle.nv_script.proofs.Words.{nat_tests, option_map_or, order_of, orders_of, outcome_after, outcome_of}
-use Rattle.nv_script.proofs.Words.{range_with_len, refl, refusal_of, reply_of, step_by, suc, sym, true}
-use Rattle.std.proofs.Common.{◌/◌, Option, Some, zero}
-use Rattle.std.specs.Prelude.{IsSome}
-use Rattle.std.proofs.lemmas.List.Concat.{flat_map-append}
-use Rattle.nv_command.specs.Received.{first_of_log, received}
+use Rattle.nv_script.proofs.Words.{[], ℕ, ◌++◌, ◌/◌, ◌∙◌, ◌∷◌, ◌≡◌, ◌≤◌, Act, Ask, Bool, Command, Controller, Err}
+use Rattle.nv_script.proofs.Words.{Exchange, IdentifyController, IdentifyNamespace, IsSome, List, Listing, None, Ok}
+use Rattle.nv_script.proofs.Words.{Option, Order, Outcome, Query, Refusal, Reply, Reset, Result, Row, Send, Shown}
+use Rattle.nv_script.proofs.Words.{Some, State, Status, above, active_nsids, answer_received, ap, append-nil}
+use Rattle.nv_script.proofs.Words.{append_assoc, arith, common_steps, controller, controller_at, exchange_by}
+use Rattle.nv_script.proofs.Words.{exchange_of, false, feature_set, feature_value, first_of_log, first_refusal}
+use Rattle.nv_script.proofs.Words.{flat_map, flat_map-append, get_or, if◌then◌else◌, is_supported, length}
+use Rattle.nv_script.proofs.Words.{listing_after, listing_of, log_reply, map, map-append, nat_lt, nat_tests}
+use Rattle.nv_script.proofs.Words.{no_listing, option_map_or, order_of, orders_of, outcome_after, outcome_of}
+use Rattle.nv_script.proofs.Words.{range_with_len, received, refl, refusal_of, reply_of, row, rules, shown_by}
+use Rattle.nv_script.proofs.Words.{shown_of_one, step_by, suc, supported, sym, true, zero}
 use Rattle.nv_command.specs.LogPage.{log_asked}
 use Rattle.nv_command.specs.declared.log_page.LogPage.{LogPage}
 use Rattle.nv_command.specs.declared.log_page.LogPage.TheVariants.{ErrorInformation, Health}
@@ -19,15 +18,10 @@ use Rattle.nv_layout.specs.Feature.{feature_of}
 use Rattle.nv_layout.specs.declared.feature.Feature.{Feature}
 use Rattle.nv_model.proofs.ManagementLaws.{none_holds}
 use Rattle.nv_model.specs.Features.{supported_rows}
-use Rattle.nv_model.specs.Logs.{log_reply}
-use Rattle.nv_model.specs.Conditions.{Row, first_refusal, row}
-use Rattle.nv_model.specs.State.{controller_at}
-use Rattle.nv_model.specs.WellFormed.{is_supported, supported}
 use Rattle.nv_print.specs.Message.{select_of}
 use Rattle.nv_print.specs.declared.select.Select.{Select}
 use Rattle.nv_script.proofs.GroupLaws.{list_orders, namespace_orders, orders_of_controller}
 use Rattle.nv_script.specs.EachShown.{EachIsShown, IsListed, IsShown, attached_numbers, device_numbers}
-use Rattle.nv_script.specs.Shown.{feature_set, feature_value, shown_by, shown_of_one}
 use Rattle.nv_command.specs.declared.command.Command.TheVariants as command
 use Rattle.nv_command.specs.declared.reply.Reply.TheVariants as reply
 use Rattle.nv_line.specs.declared.request.Ask.TheVariants as ask
