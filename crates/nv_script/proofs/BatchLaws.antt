@@ -163,7 +163,7 @@ module _ (w : Standing) (c : ℕ) (s : State) (d : DriverValue) (listing : Listi
         subsystem = state_there;
         next = cids_there;
         listed = e ∙ ap (λ l. listing_of l (map (order_of c) ks) (take (length ns) (given ++ rest))) is.listed
-            ∙ (λ i. listing_of w.listing ((ap (map (order_of c)) are 
+            ∙ (λ i. listing_of w.listing ((ap (map (order_of c)) are
             ∙ sym (append-nil (map (order_of c) (map IdentifyNamespace ns)))) i) (answers_there i))
             ∙ sym (listing_asked w (orders_in_all (asking_for c ns ∷ [])));
       };

@@ -2,7 +2,7 @@
 use Rattle.nv_script.proofs.Words.{[], ℕ, ◌++◌, ◌<◌, ◌∙◌, ◌∷◌, ◌≡◌, ActiveList, Answer, Batch, Command, Contains}
 use Rattle.nv_script.proofs.Words.{Contains-append_left, DriverValue, Err, Exchange, GoesAll, Going}
 use Rattle.nv_script.proofs.Words.{IdentifyController, IsHandedOn, IsListed, List, ListLeaves, Listing, NoText, Ok}
-use Rattle.nv_script.proofs.Words.{Reply, Result, Send, Standing, State, above, active_nsids, after, alone, answers_to}
+use Rattle.nv_script.proofs.Words.{Reply, Result, Send, Standing, State, above, active_nsids, alone, answers_to}
 use Rattle.nv_script.proofs.Words.{ap, arith, asked, batches_of_controller, common_steps, controller, exchange_of}
 use Rattle.nv_script.proofs.Words.{exchange_with, length, listing_after, namespace_batches, next_cids_of, nsids_listed}
 use Rattle.nv_script.proofs.Words.{order_of, orders_in_all, refl, subst, sym}

@@ -1,6 +1,6 @@
 -- The effect of a new driver and of its commands on command identifiers.
 use Rattle.nv_script.proofs.Words.{[], ℕ, ◌<◌, ◌∙◌, ◌∷◌, ◌≡◌, Answer, BusValue, Command, DriverValue, GoesAll, Going}
-use Rattle.nv_script.proofs.Words.{IsLinked, QueuePair, Session, State, after, after_command, after_first, alone}
+use Rattle.nv_script.proofs.Words.{IsLinked, QueuePair, Session, State, after_command, after_first, alone}
 use Rattle.nv_script.proofs.Words.{answer_received, ap, arith, cids_after, common_steps, exchange_of, exchange_with}
 use Rattle.nv_script.proofs.Words.{first_cids, length, length-map, length-replicate, new_driver, next_cid_is}
 use Rattle.nv_script.proofs.Words.{next_cids_of, order_of, pair_at, pair_count, refl, replicate, same_pairs, step}

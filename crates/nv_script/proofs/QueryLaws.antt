@@ -2,7 +2,7 @@
 use Rattle.nv_script.proofs.Words.{[], ℕ, ◌+◌, ◌<◌, ◌∙◌, ◌∷◌, ◌≡◌, Answer, AskLeaves, Batch, Command, Controller, Done}
 use Rattle.nv_script.proofs.Words.{DriverValue, Err, Exchange, GoesAll, Going, IdentifyController, IsReached, List}
 use Rattle.nv_script.proofs.Words.{NoText, NoTextLeaves, None, Ok, Option, Outcome, Query, QueryLeaves, Refusal, Reply}
-use Rattle.nv_script.proofs.Words.{Request, Reset, Restart, Result, Send, Shown, Some, State, Status, after}
+use Rattle.nv_script.proofs.Words.{Request, Restart, Result, Shown, Some, State, Status, after}
 use Rattle.nv_script.proofs.Words.{after_reset, alone, answer_received, ap, arith, batches_of, batches_with}
 use Rattle.nv_script.proofs.Words.{cids_reset, common_steps, entry_count, errors_command, get_or, length, next_cids_of}
 use Rattle.nv_script.proofs.Words.{option_map_or, order_of, orders_in_all, orders_of, outcome_after, outcome_of, refl}

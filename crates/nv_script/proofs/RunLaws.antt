@@ -5,7 +5,7 @@ use Rattle.nv_script.proofs.Words.{Consumes-join, Consumes-same, DriverValue, Er
 use Rattle.nv_script.proofs.Words.{IsAtEnd, IsCutShort, IsEndOf, IsFailureOf, IsFresh, IsReadToEnd, IsRun, LastLeaves}
 use Rattle.nv_script.proofs.Words.{Leaves, LeavesAll, Left, List, None, Ok, Option, PieceLeaves, Progress, Result}
 use Rattle.nv_script.proofs.Words.{RunEnd, RunState, Runs, RunsFrom, Session, Some, SourceState, Stands, State}
-use Rattle.nv_script.proofs.Words.{WasRead, WithDriver, after, ap, append-nil, arith, as_line, begun, common_steps}
+use Rattle.nv_script.proofs.Words.{WasRead, WithDriver, ap, append-nil, arith, as_line, begun, common_steps}
 use Rattle.nv_script.proofs.Words.{end_without, false, geometry_fault, has_stopped, inl, inr, joined_lines, left_by}
 use Rattle.nv_script.proofs.Words.{length, length-append, length-take-le, length-taken, nat_tests, new_driver}
 use Rattle.nv_script.proofs.Words.{next_cids_of, pieces, read_size, replicate, script_lines, subst, sym, take, whole}
@@ -13,7 +13,7 @@ use Rattle.nv_driver.specs.inner.Driver.{error_without}
 use Rattle.nv_driver.specs.declared.error.DriverError.{DriverError}
 use Rattle.nv_driver.specs.declared.geometry.Geometry.{Geometry as DriverGeometry}
 use Rattle.nv_driver.specs.declared.geometry_field.GeometryField.{GeometryField}
-use Rattle.nv_script.specs.declared.ends.RunEnd.TheVariants.{Geometry, Memory, MessageWrite, NoReady, Read, Status}
+use Rattle.nv_script.specs.declared.ends.RunEnd.TheVariants.{Geometry, Memory, NoReady, Read, Status}
 use Rattle.nv_script.proofs.PieceLaws.{as_line-some, length-joined, length-pieces, piece-among}
 use Rattle.nv_driver.specs.declared.error.DriverError.TheVariants as error
 

@@ -1,14 +1,14 @@
 -- Whatever is accepted is shown.
 use Rattle.nv_script.proofs.Words.{[], ℕ, ◌++◌, ◌/◌, ◌∙◌, ◌∷◌, ◌≡◌, ◌≤◌, Act, Ask, Bool, Command, Controller, Err}
 use Rattle.nv_script.proofs.Words.{Exchange, IdentifyController, IdentifyNamespace, IsSome, List, Listing, None, Ok}
-use Rattle.nv_script.proofs.Words.{Option, Order, Outcome, Query, Refusal, Reply, Reset, Result, Row, Send, Shown}
+use Rattle.nv_script.proofs.Words.{Option, Order, Outcome, Query, Refusal, Reply, Result, Row, Send, Shown}
 use Rattle.nv_script.proofs.Words.{Some, State, Status, above, active_nsids, answer_received, ap, append-nil}
-use Rattle.nv_script.proofs.Words.{append_assoc, arith, common_steps, controller, controller_at, exchange_by}
+use Rattle.nv_script.proofs.Words.{append_assoc, arith, common_steps, controller_at, exchange_by}
 use Rattle.nv_script.proofs.Words.{exchange_of, false, feature_set, feature_value, first_of_log, first_refusal}
 use Rattle.nv_script.proofs.Words.{flat_map, flat_map-append, get_or, if◌then◌else◌, is_supported, length}
 use Rattle.nv_script.proofs.Words.{listing_after, listing_of, log_reply, map, map-append, nat_lt, nat_tests}
 use Rattle.nv_script.proofs.Words.{no_listing, option_map_or, order_of, orders_of, outcome_after, outcome_of}
-use Rattle.nv_script.proofs.Words.{range_with_len, received, refl, refusal_of, reply_of, row, rules, shown_by}
+use Rattle.nv_script.proofs.Words.{range_with_len, received, refl, refusal_of, reply_of, row, shown_by}
 use Rattle.nv_script.proofs.Words.{shown_of_one, step_by, suc, supported, sym, true, zero}
 use Rattle.nv_command.specs.LogPage.{log_asked}
 use Rattle.nv_command.specs.declared.log_page.LogPage.{LogPage}

@@ -1,6 +1,5 @@
 use Rattle.nv_script.proofs.Words.{[], ◌-◌, ◌∙◌, ◌≡◌, alike-self, ap, arith, batches_of_controller}
-use Rattle.nv_script.proofs.Words.{err_from_is_err_and, false, flat_map, length, next_cids_of, range_with_len, refl}
-use Rattle.nv_script.proofs.Words.{true}
+use Rattle.nv_script.proofs.Words.{err_from_is_err_and, flat_map, length, next_cids_of, range_with_len, refl}
 use Rattle.nv_script.proofs.GoingLaws.{goes-append}
 use Rattle.nv_script.proofs.ListedLaws.{all_listed, asked_one_more, stopped_at}
 use Rattle.nv_script.proofs.listing.list.Goals as goal

@@ -1,4 +1,4 @@
-use Rattle.nv_script.proofs.Words.{arith, controller, drop, length}
+use Rattle.nv_script.proofs.Words.{arith, drop, length}
 use Rattle.nv_script.proofs.BatchLaws.{batch_leaves, commands_are}
 use Rattle.nv_script.proofs.listing.list_batch.Goals as goal
 

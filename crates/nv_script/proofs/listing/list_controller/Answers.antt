@@ -1,4 +1,4 @@
-use Rattle.nv_script.proofs.Words.{attached, controller, err_from_is_err_and, refl}
+use Rattle.nv_script.proofs.Words.{err_from_is_err_and, refl}
 use Rattle.nv_script.proofs.GreetingLaws.{greeted_leaves, stopped_there}
 use Rattle.nv_script.proofs.listing.list_controller.Goals as goal
 

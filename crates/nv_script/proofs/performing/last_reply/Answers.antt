@@ -1,4 +1,4 @@
-use Rattle.nv_script.proofs.Words.{Err, Ok, controller, err_from_is_err_and, reset}
+use Rattle.nv_script.proofs.Words.{Err, Ok, err_from_is_err_and}
 use Rattle.nv_script.proofs.QueryLaws.{log_left, reset_left, send_left}
 use Rattle.nv_script.proofs.performing.last_reply.Goals as goal
 

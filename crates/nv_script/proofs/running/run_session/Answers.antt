@@ -1,4 +1,4 @@
-use Rattle.nv_script.proofs.Words.{[], ◌++◌, ◌∙◌, Err, Ok, arith, false, length-take-le, nat_tests, refl, take, true}
+use Rattle.nv_script.proofs.Words.{[], ◌++◌, ◌∙◌, Err, Ok, arith, length-take-le, nat_tests, refl, take}
 use Rattle.nv_script.proofs.RunLaws.{cut_in_piece, finished, read_first, read_more, stands_first}
 use Rattle.nv_script.proofs.running.run_session.Goals as goal
 
