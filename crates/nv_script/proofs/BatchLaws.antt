@@ -1,12 +1,12 @@
 -- A batch of commands that ask a controller for namespaces, and one command at a time.
 use Rattle.nv_script.proofs.Words.{[], ℕ, ◌%◌, ◌++◌, ◌+◌, ◌<◌, ◌∙◌, ◌∷◌, ◌≡◌, Answer, Command, Commands, Contains}
 use Rattle.nv_script.proofs.Words.{DriverValue, Err, GoesAll, Going, IdentifyController, IdentifyNamespace, IfErr}
-use Rattle.nv_script.proofs.Words.{IsHandedOn, IsListed, List, ListLeaves, Listing, NoText, Ok, OnOk, QueuePair}
-use Rattle.nv_script.proofs.Words.{Result, Standing, State, after, after_commands, answer_received, answers_to, ap}
-use Rattle.nv_script.proofs.Words.{append-nil, arith, asked, asked_all, asking_for, cid_after, common_steps}
-use Rattle.nv_script.proofs.Words.{ext_get_or, get_or, get_or-map, get_or-set_same, get_or-take, length, length-map}
-use Rattle.nv_script.proofs.Words.{length-set, length-take-le, listing_of, map, map-set, next_cids_of, no_pair}
-use Rattle.nv_script.proofs.Words.{order_of, orders_in_all, pair_at, refl, set, set-set, step, subst, suc, sym, take}
+use Rattle.nv_script.proofs.Words.{IsHandedOn, IsListed, List, ListLeaves, Listing, NoText, Ok, OnOk, QueuePair, Result}
+use Rattle.nv_script.proofs.Words.{Standing, State, after, after_commands, answer_received, answers_to, ap, append-nil}
+use Rattle.nv_script.proofs.Words.{arith, asked, asked_all, asking_for, cid_after, common_steps, ext_get_or, get_or}
+use Rattle.nv_script.proofs.Words.{get_or-map, get_or-set_same, get_or-take, length, length-map, length-set}
+use Rattle.nv_script.proofs.Words.{length-take-le, listing_of, map, map-set, next_cids_of, no_pair, order_of}
+use Rattle.nv_script.proofs.Words.{orders_in_all, pair_at, refl, set, set-set, step, subst, suc, sym, take}
 use Rattle.nv_script.proofs.Words.{take-append_seam}
 use Rattle.std.proofs.Math.Nat.{mod-add-mod}
 use Rattle.nv_driver.specs.Batch.{answers_of, state_after}

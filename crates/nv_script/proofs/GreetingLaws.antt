@@ -1,11 +1,11 @@
 -- The first two commands of `list` to a controller: for its data, and for the NSIDs that are attached to it.
 use Rattle.nv_script.proofs.Words.{[], ℕ, ◌++◌, ◌<◌, ◌∙◌, ◌∷◌, ◌≡◌, ActiveList, Answer, Batch, Command, Contains}
-use Rattle.nv_script.proofs.Words.{Contains-append_left, DriverValue, Err, Exchange, GoesAll, Going}
-use Rattle.nv_script.proofs.Words.{IdentifyController, IsHandedOn, IsListed, List, ListLeaves, Listing, NoText, Ok}
-use Rattle.nv_script.proofs.Words.{Reply, Result, Send, Standing, State, above, active_nsids, alone, answers_to}
-use Rattle.nv_script.proofs.Words.{ap, arith, asked, batches_of_controller, common_steps, controller, exchange_of}
-use Rattle.nv_script.proofs.Words.{exchange_with, length, listing_after, namespace_batches, next_cids_of, nsids_listed}
-use Rattle.nv_script.proofs.Words.{order_of, orders_in_all, refl, subst, sym}
+use Rattle.nv_script.proofs.Words.{Contains-append_left, DriverValue, Err, Exchange, GoesAll, Going, IdentifyController}
+use Rattle.nv_script.proofs.Words.{IsHandedOn, IsListed, List, ListLeaves, Listing, NoText, Ok, Reply, Result, Send}
+use Rattle.nv_script.proofs.Words.{Standing, State, above, active_nsids, alone, answers_to, ap, arith, asked}
+use Rattle.nv_script.proofs.Words.{batches_of_controller, common_steps, controller, exchange_of, exchange_with, length}
+use Rattle.nv_script.proofs.Words.{listing_after, namespace_batches, next_cids_of, nsids_listed, order_of}
+use Rattle.nv_script.proofs.Words.{orders_in_all, refl, subst, sym}
 use Rattle.nv_script.proofs.GoingLaws.{goes-append}
 use Rattle.nv_script.proofs.LinkLaws.{Sent, is_exchange, still_known, went_alone}
 use Rattle.nv_script.proofs.ListLaws.{leaves_after}

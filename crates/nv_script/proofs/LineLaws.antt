@@ -1,10 +1,10 @@
 -- What one line leaves behind, by how its text was printed.
-use Rattle.nv_script.proofs.Words.{[], ℕ, ◌++◌, ◌+◌, ◌∙◌, ◌≡◌, ◌≢◌, ◌⊎◌, Appends, Appends-at, Appends-join, Batch}
-use Rattle.nv_script.proofs.Words.{Bool, Err, Holds, IsMemoryBeginning, IsReached, Left, LineLeaves, LineResult, List}
-use Rattle.nv_script.proofs.Words.{None, Ok, Option, OutWrite, Outcome, PrintLeaves, Progress, ReportLeaves, Request}
-use Rattle.nv_script.proofs.Words.{Result, RunEnd, Session, Some, Stands, State, Status, answer_result, ap, append-nil}
-use Rattle.nv_script.proofs.Words.{arith, batches_amid, batches_of, batches_with, common_steps, inl, inr, left_at}
-use Rattle.nv_script.proofs.Words.{length, line_result, message_at, next_cids_of, orders_in_all, orders_of, outcome_of}
+use Rattle.nv_script.proofs.Words.{[], ℕ, ◌++◌, ◌+◌, ◌∙◌, ◌≡◌, ◌≢◌, ◌⊎◌, Appends, Appends-at, Appends-join, Batch, Bool}
+use Rattle.nv_script.proofs.Words.{Err, Holds, IsMemoryBeginning, IsReached, Left, LineLeaves, LineResult, List, None}
+use Rattle.nv_script.proofs.Words.{Ok, Option, OutWrite, Outcome, PrintLeaves, Progress, ReportLeaves, Request, Result}
+use Rattle.nv_script.proofs.Words.{RunEnd, Session, Some, Stands, State, Status, answer_result, ap, append-nil, arith}
+use Rattle.nv_script.proofs.Words.{batches_amid, batches_of, batches_with, common_steps, inl, inr, left_at, length}
+use Rattle.nv_script.proofs.Words.{line_result, message_at, next_cids_of, orders_in_all, orders_of, outcome_of}
 use Rattle.nv_script.proofs.Words.{output_for, refl, result_at, said_at, state_amid, subst, sym, take, take_all}
 use Rattle.nv_script.proofs.Words.{unwrap_or}
 use Rattle.nv_layout.specs.Steps.{◌>>=◌}

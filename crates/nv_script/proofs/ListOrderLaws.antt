@@ -1,7 +1,7 @@
 -- The commands of `list` in a well-formed subsystem, controller by controller.
 use Rattle.nv_script.proofs.Words.{[], ℕ, ◌++◌, ◌+◌, ◌-◌, ◌<◌, ◌∙◌, ◌∷◌, ◌≡◌, ◌≤◌, ActiveList, All, All-tail, Batch}
-use Rattle.nv_script.proofs.Words.{Bool, IdentifyController, IsAlike, IsInside, IsWellFormed, List, Order, State}
-use Rattle.nv_script.proofs.Words.{above, active_inside, active_nsids, alone, ap, append-nil, arith, attached}
+use Rattle.nv_script.proofs.Words.{Bool, IdentifyController, IsAlike, IsInside, IsWellFormed, List, Order, State, above}
+use Rattle.nv_script.proofs.Words.{active_inside, active_nsids, alone, ap, append-nil, arith, attached}
 use Rattle.nv_script.proofs.Words.{batches_of_controller, common_steps, controller, false, filter, flat_map}
 use Rattle.nv_script.proofs.Words.{if◌then◌else◌, length, namespace, namespace_batches, nat_lt, orders_in_all}
 use Rattle.nv_script.proofs.Words.{orders_of, range_with_len, subst, suc, sym, true}

@@ -102,6 +102,6 @@ module _ (s : State) (next_cids : List ℕ) (ok : IsWellFormed s) where
               (asked_all_alike there (orders_in_all these) (controller_lookups there.state i there_formed)));
           done = asked.done ++ these;
           split = next_batches ∙ sym (append_assoc asked.done these (batches_from s (i + 1) n));
-          listed = leaves_after first asked.done (asked.done ++ these) then gone goes_on (Ok (tt {0})) these last next more
-              refl h;
+          listed = leaves_after first asked.done (asked.done ++ these) then gone goes_on (Ok (tt {0})) these last next
+              more refl h;
         }

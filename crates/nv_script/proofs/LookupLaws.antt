@@ -1,9 +1,9 @@
 -- No command of `list` is refused, and its commands don't depend on those before.
 use Rattle.nv_script.proofs.Words.{[], ℕ, ◌∙◌, ◌∷◌, ◌≡◌, Act, AllByRecursion, Answer, Command, Contains, Done, Err}
-use Rattle.nv_script.proofs.Words.{IsAlike, IsLookup, List, Ok, Order, Reply, Send, Standing, State, Status}
-use Rattle.nv_script.proofs.Words.{alike-join, alike-self, answers_to, ap, arith, asked, asked_all}
-use Rattle.nv_script.proofs.Words.{exchange_by, get_or, get_or-map, length-map, looked_alike, looked_received, map}
-use Rattle.nv_script.proofs.Words.{outcome_after, outcome_of, refl, reply_of, subst, sym}
+use Rattle.nv_script.proofs.Words.{IsAlike, IsLookup, List, Ok, Order, Reply, Send, Standing, State, Status, alike-join}
+use Rattle.nv_script.proofs.Words.{alike-self, answers_to, ap, arith, asked, asked_all, exchange_by, get_or, get_or-map}
+use Rattle.nv_script.proofs.Words.{length-map, looked_alike, looked_received, map, outcome_after, outcome_of, refl}
+use Rattle.nv_script.proofs.Words.{reply_of, subst, sym}
 use Rattle.nv_script.proofs.OutcomeLaws.{accepted_with}
 
 -- an act of `list`, if NSIDs go up to nn

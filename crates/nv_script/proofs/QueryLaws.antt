@@ -2,11 +2,11 @@
 use Rattle.nv_script.proofs.Words.{[], ℕ, ◌+◌, ◌<◌, ◌∙◌, ◌∷◌, ◌≡◌, Answer, AskLeaves, Batch, Command, Controller, Done}
 use Rattle.nv_script.proofs.Words.{DriverValue, Err, Exchange, GoesAll, Going, IdentifyController, IsReached, List}
 use Rattle.nv_script.proofs.Words.{NoText, NoTextLeaves, None, Ok, Option, Outcome, Query, QueryLeaves, Refusal, Reply}
-use Rattle.nv_script.proofs.Words.{Request, Restart, Result, Shown, Some, State, Status, after}
-use Rattle.nv_script.proofs.Words.{after_reset, alone, answer_received, ap, arith, batches_of, batches_with}
-use Rattle.nv_script.proofs.Words.{cids_reset, common_steps, entry_count, errors_command, get_or, length, next_cids_of}
-use Rattle.nv_script.proofs.Words.{option_map_or, order_of, orders_in_all, orders_of, outcome_after, outcome_of, refl}
-use Rattle.nv_script.proofs.Words.{refusal_of, reset, shown_by, shown_of, step_by, subst, sym, take_all}
+use Rattle.nv_script.proofs.Words.{Request, Restart, Result, Shown, Some, State, Status, after, after_reset, alone}
+use Rattle.nv_script.proofs.Words.{answer_received, ap, arith, batches_of, batches_with, cids_reset, common_steps}
+use Rattle.nv_script.proofs.Words.{entry_count, errors_command, get_or, length, next_cids_of, option_map_or, order_of}
+use Rattle.nv_script.proofs.Words.{orders_in_all, orders_of, outcome_after, outcome_of, refl, refusal_of, reset}
+use Rattle.nv_script.proofs.Words.{shown_by, shown_of, step_by, subst, sym, take_all}
 use Rattle.nv_layout.specs.IdCtrl.{id_ctrl_of_bytes}
 use Rattle.nv_layout.specs.Parts.{number_at}
 use Rattle.nv_model.specs.IdentifyController.{id_ctrl_of, no_controller}

@@ -1,14 +1,14 @@
 -- How the pieces of a run form the whole run.
-use Rattle.nv_script.proofs.Words.{[], ℕ, ◌++◌, ◌+◌, ◌<◌, ◌==◌, ◌||◌, ◌↔◌, ◌∙◌, ◌∷◌, ◌≡◌, ◌≤◌, AllEnabled}
-use Rattle.nv_script.proofs.Words.{Appends-same, AreFailed, AreFaults, Batch, Bool, BringingUp, Consumes}
-use Rattle.nv_script.proofs.Words.{Consumes-join, Consumes-same, DriverValue, Err, GoesAll, Going, Headline, IfSome}
-use Rattle.nv_script.proofs.Words.{IsAtEnd, IsCutShort, IsEndOf, IsFailureOf, IsFresh, IsReadToEnd, IsRun, LastLeaves}
-use Rattle.nv_script.proofs.Words.{Leaves, LeavesAll, Left, List, None, Ok, Option, PieceLeaves, Progress, Result}
-use Rattle.nv_script.proofs.Words.{RunEnd, RunState, Runs, RunsFrom, Session, Some, SourceState, Stands, State}
-use Rattle.nv_script.proofs.Words.{WasRead, WithDriver, ap, append-nil, arith, as_line, begun, common_steps}
-use Rattle.nv_script.proofs.Words.{end_without, false, geometry_fault, has_stopped, inl, inr, joined_lines, left_by}
-use Rattle.nv_script.proofs.Words.{length, length-append, length-take-le, length-taken, nat_tests, new_driver}
-use Rattle.nv_script.proofs.Words.{next_cids_of, pieces, read_size, replicate, script_lines, subst, sym, take, whole}
+use Rattle.nv_script.proofs.Words.{[], ℕ, ◌++◌, ◌+◌, ◌<◌, ◌==◌, ◌||◌, ◌↔◌, ◌∙◌, ◌∷◌, ◌≡◌, ◌≤◌, AllEnabled, Appends-same}
+use Rattle.nv_script.proofs.Words.{AreFailed, AreFaults, Batch, Bool, BringingUp, Consumes, Consumes-join}
+use Rattle.nv_script.proofs.Words.{Consumes-same, DriverValue, Err, GoesAll, Going, Headline, IfSome, IsAtEnd}
+use Rattle.nv_script.proofs.Words.{IsCutShort, IsEndOf, IsFailureOf, IsFresh, IsReadToEnd, IsRun, LastLeaves, Leaves}
+use Rattle.nv_script.proofs.Words.{LeavesAll, Left, List, None, Ok, Option, PieceLeaves, Progress, Result, RunEnd}
+use Rattle.nv_script.proofs.Words.{RunState, Runs, RunsFrom, Session, Some, SourceState, Stands, State, WasRead}
+use Rattle.nv_script.proofs.Words.{WithDriver, ap, append-nil, arith, as_line, begun, common_steps, end_without, false}
+use Rattle.nv_script.proofs.Words.{geometry_fault, has_stopped, inl, inr, joined_lines, left_by, length, length-append}
+use Rattle.nv_script.proofs.Words.{length-take-le, length-taken, nat_tests, new_driver, next_cids_of, pieces, read_size}
+use Rattle.nv_script.proofs.Words.{replicate, script_lines, subst, sym, take, whole}
 use Rattle.nv_driver.specs.inner.Driver.{error_without}
 use Rattle.nv_driver.specs.declared.error.DriverError.{DriverError}
 use Rattle.nv_driver.specs.declared.geometry.Geometry.{Geometry as DriverGeometry}

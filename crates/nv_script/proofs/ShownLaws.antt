@@ -1,15 +1,14 @@
 -- Whatever is accepted is shown.
 use Rattle.nv_script.proofs.Words.{[], ℕ, ◌++◌, ◌/◌, ◌∙◌, ◌∷◌, ◌≡◌, ◌≤◌, Act, Ask, Bool, Command, Controller, Err}
 use Rattle.nv_script.proofs.Words.{Exchange, IdentifyController, IdentifyNamespace, IsSome, List, Listing, None, Ok}
-use Rattle.nv_script.proofs.Words.{Option, Order, Outcome, Query, Refusal, Reply, Result, Row, Send, Shown}
-use Rattle.nv_script.proofs.Words.{Some, State, Status, above, active_nsids, answer_received, ap, append-nil}
-use Rattle.nv_script.proofs.Words.{append_assoc, arith, common_steps, controller_at, exchange_by}
-use Rattle.nv_script.proofs.Words.{exchange_of, false, feature_set, feature_value, first_of_log, first_refusal}
-use Rattle.nv_script.proofs.Words.{flat_map, flat_map-append, get_or, if◌then◌else◌, is_supported, length}
-use Rattle.nv_script.proofs.Words.{listing_after, listing_of, log_reply, map, map-append, nat_lt, nat_tests}
-use Rattle.nv_script.proofs.Words.{no_listing, option_map_or, order_of, orders_of, outcome_after, outcome_of}
-use Rattle.nv_script.proofs.Words.{range_with_len, received, refl, refusal_of, reply_of, row, shown_by}
-use Rattle.nv_script.proofs.Words.{shown_of_one, step_by, suc, supported, sym, true, zero}
+use Rattle.nv_script.proofs.Words.{Option, Order, Outcome, Query, Refusal, Reply, Result, Row, Send, Shown, Some, State}
+use Rattle.nv_script.proofs.Words.{Status, above, active_nsids, answer_received, ap, append-nil, append_assoc, arith}
+use Rattle.nv_script.proofs.Words.{common_steps, controller_at, exchange_by, exchange_of, false, feature_set}
+use Rattle.nv_script.proofs.Words.{feature_value, first_of_log, first_refusal, flat_map, flat_map-append, get_or}
+use Rattle.nv_script.proofs.Words.{if◌then◌else◌, is_supported, length, listing_after, listing_of, log_reply, map}
+use Rattle.nv_script.proofs.Words.{map-append, nat_lt, nat_tests, no_listing, option_map_or, order_of, orders_of}
+use Rattle.nv_script.proofs.Words.{outcome_after, outcome_of, range_with_len, received, refl, refusal_of, reply_of, row}
+use Rattle.nv_script.proofs.Words.{shown_by, shown_of_one, step_by, suc, supported, sym, true, zero}
 use Rattle.nv_command.specs.LogPage.{log_asked}
 use Rattle.nv_command.specs.declared.log_page.LogPage.{LogPage}
 use Rattle.nv_command.specs.declared.log_page.LogPage.TheVariants.{ErrorInformation, Health}
@@ -111,13 +110,6 @@ module _ (s : State) (next_cids : List ℕ) (c : ℕ) (show : List Reply → Opt
       by_refusal (refusal_of s c k) x.state x.next_cids is e
 
 module _ (s : State) (next_cids : List ℕ) (c : ℕ) where
-  -- a command that comes alone and is accepted is shown if its reply is shown
-  only_is_shown : (a : Ask) (k : Command)
-      → (refusal_of s c k ≡ None → IsSome (shown_by a (received k (reply_of s c k))))
-      → (outcome_of s next_cids (order_of c k ∷ [])).refusal ≡ None
-      → IsSome (shown_of_one a (outcome_of s next_cids (order_of c k ∷ [])).replies)
-  only_is_shown a k is e = last_is_shown s next_cids c (shown_of_one a) k is e
-
   -- the entries of an error log or the health log, as they are received, are shown for any ask
   log_is_shown : (a : Ask) (room : ℕ) (page : LogPage)
       → IsSome (shown_by a (first_of_log room (log_reply s c page)))
@@ -136,7 +128,7 @@ module _ (s : State) (next_cids : List ℕ) (c : ℕ) where
 
   -- what one controller is asked is shown if none of its orders is refused
   one_is_shown : (a : Ask) → IsShown s next_cids (query.One c a)
-  one_is_shown (ask.Send k) e = only_is_shown (ask.Send k) k (command_is_shown k) e
+  one_is_shown (ask.Send k) e = last_is_shown s next_cids c (shown_of_one (ask.Send k)) k (command_is_shown k) e
   one_is_shown ask.Reset e = refl
   one_is_shown (ask.ErrorLog entries) e = grind (arith, common_steps, last_is_shown)
 

@@ -1,5 +1,5 @@
-use Rattle.nv_script.proofs.Words.{[], ◌-◌, ◌∙◌, ◌≡◌, alike-self, ap, arith, batches_of_controller}
-use Rattle.nv_script.proofs.Words.{err_from_is_err_and, flat_map, length, next_cids_of, range_with_len, refl}
+use Rattle.nv_script.proofs.Words.{[], ◌-◌, ◌∙◌, ◌≡◌, alike-self, ap, arith, batches_of_controller, err_from_is_err_and}
+use Rattle.nv_script.proofs.Words.{flat_map, length, next_cids_of, range_with_len, refl}
 use Rattle.nv_script.proofs.GoingLaws.{goes-append}
 use Rattle.nv_script.proofs.ListedLaws.{all_listed, asked_one_more, stopped_at}
 use Rattle.nv_script.proofs.listing.list.Goals as goal
@@ -34,7 +34,8 @@ pub loop-ctrl-init : goal.loop-ctrl-init
 loop-ctrl-init g c =
     let s = (g.B.Bus.meaning c.args.bus.now).state in
     let n = c.controllers-ctrl-end.result in
-    let many : length s.controllers ≡ n - 0 = omega (arith, c.controllers-ctrl-end.ensures, c.requires.linked.bus.banks) in
+    let many : length s.controllers ≡ n - 0 =
+    omega (arith, c.controllers-ctrl-end.ensures, c.requires.linked.bus.banks) in
     record {
       linked = c.requires.linked;
       pairs = refl;
