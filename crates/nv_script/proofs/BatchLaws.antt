@@ -1,21 +1,18 @@
 -- A batch of commands that ask a controller for namespaces, and one command at a time.
-use Rattle.nv_script.proofs.Words.{[], ℕ, ◌++◌, ◌+◌, ◌<◌, ◌∙◌, ◌∷◌, ◌≡◌, Answer, Batch, Command, Contains, DriverValue}
-use Rattle.nv_script.proofs.Words.{Err, IdentifyController, IsHandedOn, IsListed, List, ListLeaves, Listing, NoText}
-use Rattle.nv_script.proofs.Words.{Ok, QueuePair, Result, Standing, State, answer_received, answers_to, ap, arith}
-use Rattle.nv_script.proofs.Words.{asked, asked_all, asking_for, common_steps, get_or, get_or-map, get_or-take, length}
-use Rattle.nv_script.proofs.Words.{length-map, length-take-le, listing_of, map, next_cids_of, order_of, pair_at, refl}
-use Rattle.nv_script.proofs.Words.{step, subst, suc, sym, take, take-append_seam}
-use Rattle.std.proofs.Common.{◌%◌, set}
-use Rattle.std.specs.Prelude.{IfErr, OnOk}
+use Rattle.nv_script.proofs.Words.{[], ℕ, ◌%◌, ◌++◌, ◌+◌, ◌<◌, ◌∙◌, ◌∷◌, ◌≡◌, Answer, Command, Commands, Contains}
+use Rattle.nv_script.proofs.Words.{DriverValue, Err, GoesAll, Going, IdentifyController, IdentifyNamespace, IfErr}
+use Rattle.nv_script.proofs.Words.{IsHandedOn, IsListed, List, ListLeaves, Listing, NoText, Ok, OnOk, QueuePair, Result}
+use Rattle.nv_script.proofs.Words.{Standing, State, after, after_commands, answer_received, answers_to, ap, append-nil}
+use Rattle.nv_script.proofs.Words.{arith, asked, asked_all, asking_for, cid_after, common_steps, ext_get_or, get_or}
+use Rattle.nv_script.proofs.Words.{get_or-map, get_or-set_same, get_or-take, length, length-map, length-set}
+use Rattle.nv_script.proofs.Words.{length-take-le, listing_of, map, map-set, next_cids_of, no_pair, order_of}
+use Rattle.nv_script.proofs.Words.{orders_in_all, pair_at, refl, set, set-set, step, subst, suc, sym, take}
+use Rattle.nv_script.proofs.Words.{take-append_seam}
 use Rattle.std.proofs.Math.Nat.{mod-add-mod}
-use Rattle.std.proofs.lemmas.List.{ext_get_or, get_or-set_same, length-set, map-set, set-set}
-use Rattle.nv_command.specs.declared.command.Command.TheVariants.{IdentifyNamespace}
 use Rattle.nv_driver.specs.Batch.{answers_of, state_after}
-use Rattle.nv_driver.specs.Driver.{after_commands, no_pair}
-use Rattle.nv_model.specs.Step.{cid_after}
 use Rattle.nv_model.specs.Ranges.{cid_count}
-use Rattle.nv_script.proofs.GroupLaws.{batch_orders, namespace_orders, orders_are}
-use Rattle.nv_script.proofs.ListLaws.{begun_all, listing_asked}
+use Rattle.nv_script.proofs.GroupLaws.{batch_orders, namespace_orders}
+use Rattle.nv_script.proofs.ListLaws.{listing_asked}
 use Rattle.nv_script.specs.declared.performing.NoText.TheVariants as stop
 
 -- ---- the commands
@@ -116,7 +113,7 @@ module _ (w : Standing) (c : ℕ) (s : State) (d : DriverValue) (listing : Listi
   many = ap length are ∙ length-map ns IdentifyNamespace
 
   -- the state that a batch leaves is the one after the commands for its namespaces
-  pub batch_state : (now : State) → now ≡ state_after c s now_due ks → now ≡ (all_after c w ns).state
+  batch_state : (now : State) → now ≡ state_after c s now_due ks → now ≡ (all_after c w ns).state
   batch_state now e = grind (arith, common_steps, is_due, states, known)
 
   -- the command identifiers after a batch with at least one NSID are those after its commands
@@ -126,39 +123,60 @@ module _ (w : Standing) (c : ℕ) (s : State) (d : DriverValue) (listing : Listi
   some_cids (n ∷ ns) h = sym (next_cids c w n ns known)
 
   -- a batch leaves the command identifiers that the commands for its namespaces leave
-  pub batch_cids : (after : DriverValue) → 0 < length ns → after ≡ after_commands d c (length ks)
+  batch_cids : (after : DriverValue) → 0 < length ns → after ≡ after_commands d c (length ks)
       → next_cids_of after ≡ (all_after c w ns).next_cids
   batch_cids after some e = grind (arith, common_steps, map-set, next_cids, is_due, many, some_cids)
 
   -- the first answers, one for each NSID, are the answers to the commands for the namespaces
-  pub batch_answers : (given rest : List Answer) → given ≡ answers_of c s now_due ks
+  batch_answers : (given rest : List Answer) → given ≡ answers_of c s now_due ks
       → take (length ns) (given ++ rest) ≡ answers_to w (namespace_orders c ns)
   batch_answers given rest a =
       grind (arith, common_steps, length_answers, many, take-append_seam, is_due, answers, known)
 
-  -- a batch leaves the standing after the commands for its namespaces, or a right stop
-  pub batch_leaves : {A : Type 0} (r : Result A NoText) (now : State) (after : DriverValue) (kept : Listing)
-      (given : List Answer) (went : List Batch → Type 0)
-      → 0 < length ns → now ≡ state_after c s now_due ks → after ≡ after_commands d c (length ks)
-      → given ≡ answers_to w (namespace_orders c ns) → went (asking_for c ns ∷ [])
-      → OnOk r (kept ≡ listing_of listing (map (order_of c) ks) given) → IfErr r (λ stop. IsHandedOn stop given)
-      → ListLeaves r w (asking_for c ns ∷ []) now (next_cids_of after) kept went
-  batch_leaves (Ok x) now after kept given went some state driver a gone e refused = (
-    subst (λ os. IsListed (asked_all w os) now (next_cids_of after) kept) (sym (batch_orders c ns)) (record {
-      subsystem = batch_state now state;
-      next = batch_cids after some driver;
-      listed = e
-          ∙ ap (λ l. listing_of l (map (order_of c) ks) given) is.listed
-          ∙ ap (λ os. listing_of w.listing os given) (ap (map (order_of c)) are ∙ orders_are c ns)
-          ∙ ap (listing_of w.listing (namespace_orders c ns)) a
-          ∙ sym (listing_asked w (namespace_orders c ns));
-    }),
-    gone,
-  )
-  batch_leaves (Err (stop.Refused status)) now after kept given went some state driver a gone e refused =
-      subst (λ xs. Contains xs (Err status)) (a ∙ ap (answers_to w) (sym (batch_orders c ns))) refused
-  batch_leaves (Err stop.Memory) now after kept given went some state driver a gone e refused =
-      begun_all w (asking_for c ns ∷ []) now (next_cids_of after) went
-      (batch_state now state ∙ ap (λ os. (asked_all w os).state) (sym (batch_orders c ns)))
-      (batch_cids after some driver ∙ ap (λ os. (asked_all w os).next_cids) (sym (batch_orders c ns))) gone
-  batch_leaves (Err stop.NoReady) now after kept given went some state driver a gone e refused = absurd refused
+  -- what a batch leaves, if the driver sent it and received these answers
+  module _ {B : Type 0} (goes : Going B) (old at : B) {now : State} {after : DriverValue} (given rest : List Answer)
+      (some : 0 < length ns) (state : now ≡ state_after c s now_due ks)
+      (driver : after ≡ after_commands d c (length ks)) (a : given ≡ answers_of c s now_due ks)
+      (steps : goes d (Commands c ks) old at) where
+    -- it went
+    gone : GoesAll goes d old after at (asking_for c ns ∷ [])
+    gone = subst (λ xs. GoesAll goes d old after at (Commands c xs ∷ [])) are (at, steps, (driver, refl))
+
+    -- its orders were carried out
+    state_there : now ≡ (asked_all w (orders_in_all (asking_for c ns ∷ []))).state
+    state_there = batch_state now state ∙ ap (λ os. (asked_all w os).state) (sym (batch_orders c ns))
+
+    cids_there : next_cids_of after ≡ (asked_all w (orders_in_all (asking_for c ns ∷ []))).next_cids
+    cids_there = batch_cids after some driver ∙ ap (λ os. (asked_all w os).next_cids) (sym (batch_orders c ns))
+
+    -- the first answers are those to its orders
+    answers_there : take (length ns) (given ++ rest) ≡ answers_to w (orders_in_all (asking_for c ns ∷ []))
+    answers_there = batch_answers given rest a ∙ ap (answers_to w) (sym (batch_orders c ns))
+
+    -- keeping the answers leaves the standing after the batch, or a right stop
+    pub batch_leaves : {A : Type 0} (r : Result A NoText) (kept : Listing)
+        → OnOk r (kept ≡ listing_of listing (map (order_of c) ks) (take (length ns) (given ++ rest)))
+        → IfErr r (λ stop. IsHandedOn stop (take (length ns) (given ++ rest)))
+        → ListLeaves r w (asking_for c ns ∷ []) now (next_cids_of after) kept (GoesAll goes d old after at)
+    batch_leaves (Ok x) kept e refused = record {
+      listed = record {
+        subsystem = state_there;
+        next = cids_there;
+        listed = e ∙ ap (λ l. listing_of l (map (order_of c) ks) (take (length ns) (given ++ rest))) is.listed
+            ∙ (λ i. listing_of w.listing ((ap (map (order_of c)) are
+            ∙ sym (append-nil (map (order_of c) (map IdentifyNamespace ns)))) i) (answers_there i))
+            ∙ sym (listing_asked w (orders_in_all (asking_for c ns ∷ [])));
+      };
+      gone = gone;
+    }
+    batch_leaves (Err (stop.Refused status)) kept e refused =
+        subst (λ xs. Contains xs (Err status)) answers_there refused
+    batch_leaves (Err stop.Memory) kept e refused = record {
+      done = asking_for c ns ∷ [];
+      later = [];
+      split = refl;
+      subsystem = state_there;
+      next = cids_there;
+      gone = gone;
+    }
+    batch_leaves (Err stop.NoReady) kept e refused = absurd refused

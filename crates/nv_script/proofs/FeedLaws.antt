@@ -1,13 +1,9 @@
 -- A piece of a script, line by line.
-use Rattle.nv_script.proofs.Words.{[], ℕ, ◌++◌, ◌+◌, ◌<◌, ◌∙◌, ◌∷◌, ◌≡◌, Left, List, RunEnd, Session, Stands, State}
-use Rattle.nv_script.proofs.Words.{after, ap, append-nil, append_assoc, arith, buffer_after, buffer_of, common_steps}
-use Rattle.nv_script.proofs.Words.{eqb, get_or, get_or-take, is_byte, length, length-append, length-take-le, nat_tests}
-use Rattle.nv_script.proofs.Words.{pieces, subst, sym, take, true, whole}
-use Rattle.std.proofs.Math.Seq.{take-append-add}
-use Rattle.std.proofs.lemmas.List.{get_or-append-add}
-use Rattle.std.specs.Prelude.{Option, Some}
-use Rattle.memchr.specs.Find.{IsFirstByte}
-use Rattle.nv_script.specs.Cuts.{IsCutIn}
+use Rattle.nv_script.proofs.Words.{[], ℕ, ◌++◌, ◌+◌, ◌<◌, ◌∙◌, ◌∷◌, ◌≡◌, IsCutIn, IsFirstByte, Left, List, Option}
+use Rattle.nv_script.proofs.Words.{RunEnd, Session, Some, Stands, State, after, ap, append-nil, append_assoc, arith}
+use Rattle.nv_script.proofs.Words.{buffer_after, buffer_of, common_steps, eqb, get_or, get_or-append-add, get_or-take}
+use Rattle.nv_script.proofs.Words.{is_byte, length, length-append, length-take-le, nat_tests, pieces, subst, sym, take}
+use Rattle.nv_script.proofs.Words.{take-append-add, true, whole}
 use Rattle.nv_script.proofs.PieceLaws.{HasNoNewline, buffer_after-buffer_of, pieces-newline, pieces-others, taken-more}
 use Rattle.nv_script.proofs.PieceLaws.{whole-more}
 

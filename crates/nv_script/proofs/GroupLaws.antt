@@ -1,16 +1,11 @@
 -- The batches of `list`, and their orders, one after another.
-use Rattle.nv_script.proofs.Words.{[], ℕ, ◌++◌, ◌<◌, ◌∙◌, ◌∷◌, ◌≡◌, ◌≤◌, ActiveList, IdentifyController, List, Order}
-use Rattle.nv_script.proofs.Words.{State, above, active_nsids, ap, append-nil, arith, asking_for, batches_of_controller}
-use Rattle.nv_script.proofs.Words.{drop, flat_map, length, map, map-append, namespace_batches, order_of, orders_in}
-use Rattle.nv_script.proofs.Words.{orders_in_all, orders_of, range_with_len, refl, suc, sym, take, take-append-drop}
-use Rattle.nv_script.proofs.Words.{take_all}
-use Rattle.std.proofs.Common.{⊎_elim, zero}
+use Rattle.nv_script.proofs.Words.{[], ⊎_elim, ℕ, ◌++◌, ◌-◌, ◌<◌, ◌∙◌, ◌∷◌, ◌≡◌, ◌≤◌, ActiveList, Batch}
+use Rattle.nv_script.proofs.Words.{IdentifyController, IdentifyNamespace, List, Order, State, above, active_nsids, ap}
+use Rattle.nv_script.proofs.Words.{append-nil, append_assoc, arith, asking_for, batches_of_controller, drop, drop_all}
+use Rattle.nv_script.proofs.Words.{flat_map, flat_map-append, groups, length, length-drop, map, map-append, min}
+use Rattle.nv_script.proofs.Words.{namespace_batches, order_of, orders_in, orders_in_all, orders_of, range_with_len}
+use Rattle.nv_script.proofs.Words.{refl, suc, sym, take, take-append-drop, take_all, zero}
 use Rattle.std.proofs.lemmas.Bool.{cases_lt}
-use Rattle.std.proofs.lemmas.List.{drop_all, length-drop}
-use Rattle.std.proofs.lemmas.List.Concat.{flat_map-append}
-use Rattle.std.specs.Prelude.{min}
-use Rattle.nv_command.specs.declared.command.Command.TheVariants.{IdentifyNamespace}
-use Rattle.nv_script.specs.Orders.{groups}
 use Rattle.nv_line.specs.declared.request.Query.TheVariants as query
 
 -- ---- the orders, one by one
@@ -25,7 +20,7 @@ orders_of_controller s c =
     order_of c IdentifyController ∷ order_of c (ActiveList 0) ∷ namespace_orders c (above 0 (active_nsids s c))
 
 -- the commands for NSIDs as orders are the orders for these NSIDs
-pub orders_are : (c : ℕ) (ns : List ℕ) → map (order_of c) (map IdentifyNamespace ns) ≡ namespace_orders c ns
+orders_are : (c : ℕ) (ns : List ℕ) → map (order_of c) (map IdentifyNamespace ns) ≡ namespace_orders c ns
 orders_are c [] = refl
 orders_are c (n ∷ ns) = ap (λ os. order_of c (IdentifyNamespace n) ∷ os) (orders_are c ns)
 
@@ -60,7 +55,7 @@ first_group ns count e = ⊎_elim
     (cases_lt (length ns) 16)
 
 -- the batches for NSIDs are a batch for the first group, and then those for the rest
-pub batches_next : (c : ℕ) (ns : List ℕ) (count : ℕ) → 0 < length ns → count ≡ min (length ns) 16
+batches_next : (c : ℕ) (ns : List ℕ) (count : ℕ) → 0 < length ns → count ≡ min (length ns) 16
     → namespace_batches c ns ≡ asking_for c (take count ns) ∷ namespace_batches c (drop count ns)
 batches_next c [] count some e = absurd (omega arith)
 batches_next c (x ∷ xs) count some e =
@@ -70,6 +65,20 @@ batches_next c (x ∷ xs) count some e =
     (same_groups (length xs) (length rest) rest (omega (arith, length-drop 16 (x ∷ xs))) (omega arith))
     ∙ ap (λ ns. asking_for c ns ∷ namespace_batches c rest) first.0
     ∙ ap (λ ns. asking_for c (take count (x ∷ xs)) ∷ namespace_batches c ns) first.1
+
+module _ (c : ℕ) (all done : List Batch) (ns : List ℕ) (count : ℕ) (some : 0 < length ns)
+    (e : count ≡ min (length ns) 16) (is : all ≡ done ++ namespace_batches c ns) where
+  -- after the batches that are done comes the one for the first group of the rest
+  pub group_next : all ≡ done ++ (asking_for c (take count ns) ∷ namespace_batches c (drop count ns))
+  group_next = is ∙ ap (λ bs. done ++ bs) (batches_next c ns count some e)
+
+  -- when that is done too, those for what follows the group are left
+  pub groups_left : all ≡ (done ++ asking_for c (take count ns) ∷ [])
+      ++ namespace_batches c (take (length ns - count) (drop count ns))
+  groups_left =
+      group_next ∙ sym (append_assoc done (asking_for c (take count ns) ∷ []) (namespace_batches c (drop count ns)))
+      ∙ ap (λ rest. (done ++ asking_for c (take count ns) ∷ []) ++ namespace_batches c rest)
+      (sym (take_all (length ns - count) (drop count ns) (omega (arith, length-drop count ns))))
 
 -- ---- the orders of all groups
 

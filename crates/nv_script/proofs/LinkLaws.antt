@@ -1,13 +1,11 @@
--- The effect of a new driver, its commands and its resets on command identifiers.
-use Rattle.nv_script.proofs.Words.{ℕ, ◌<◌, ◌∙◌, ◌≡◌, BusValue, Command, Done, DriverValue, IsLinked, Ok, QueuePair}
-use Rattle.nv_script.proofs.Words.{Reply, Reset, Result, Session, Status, after_command, answer_received, ap, arith}
-use Rattle.nv_script.proofs.Words.{common_steps, exchange_of, exchange_with, length, length-map, next_cids_of, order_of}
-use Rattle.nv_script.proofs.Words.{pair_at, replicate, step, subst, sym}
-use Rattle.std.proofs.lemmas.List.{length-replicate}
-use Rattle.nv_model.specs.Step.{reset}
-use Rattle.nv_driver.specs.Driver.{after_reset, new_driver}
+-- The effect of a new driver and of its commands on command identifiers.
+use Rattle.nv_script.proofs.Words.{[], ℕ, ◌<◌, ◌∙◌, ◌∷◌, ◌≡◌, Answer, BusValue, Command, DriverValue, GoesAll, Going}
+use Rattle.nv_script.proofs.Words.{IsLinked, QueuePair, Session, State, after_command, after_first, alone}
+use Rattle.nv_script.proofs.Words.{answer_received, ap, arith, cids_after, common_steps, exchange_of, exchange_with}
+use Rattle.nv_script.proofs.Words.{first_cids, length, length-map, length-replicate, new_driver, next_cid_is}
+use Rattle.nv_script.proofs.Words.{next_cids_of, order_of, pair_at, pair_count, refl, replicate, same_pairs, step}
+use Rattle.nv_script.proofs.Words.{subst, sym}
 use Rattle.nv_driver.specs.declared.geometry.Geometry.{Geometry}
-use Rattle.nv_driver.proofs.LinkedLaws.{cids_after, cids_reset, first_cids, next_cid_is, pair_count, same_pairs}
 use Rattle.nv_script.specs.inner.Link.{IsFirst}
 
 -- a session with a new driver, line number 0 and status 0 is a first one
@@ -26,23 +24,26 @@ first_session g old new d session linked is driver number status =
       status = status;
     }
 
--- a command that a driver sends to controller c is the exchange of its order
-pub sent : (b new : BusValue) (d after : DriverValue) (c : ℕ) (k : Command) (answer : Result Reply Status)
-    → c < length d.pairs
-    → answer ≡ answer_received k (step b.state c k (pair_at d.pairs c).next_cid).answer
-    → new.state ≡ (step b.state c k (pair_at d.pairs c).next_cid).state → after ≡ after_command d c
-    → exchange_with answer new.state (next_cids_of after) ≡ exchange_of b.state (next_cids_of d) (order_of c k)
-sent b new d after c k answer below a s is = grind (arith, common_steps, next_cid_is, cids_after)
+-- a driver sent a command to controller c and received this answer: the subsystem, the driver and the bus before and
+-- after it
+pub record Sent {B : Type 0} (goes : Going B) (c : ℕ) (k : Command) (answer : Answer) (s new : State)
+    (d after : DriverValue) (old at : B) : Type 0 where
+  pub answered : answer ≡ answer_received k (step s c k (pair_at d.pairs c).next_cid).answer
+  pub state : new ≡ (step s c k (pair_at d.pairs c).next_cid).state
+  pub driver : after ≡ after_command d c
+  pub steps : goes d (alone c k) old at
 
--- a reset of controller c by a driver is the exchange of its order
-pub was_reset : (b new : BusValue) (d after : DriverValue) (c : ℕ) → new.state ≡ reset b.state c
-    → after ≡ after_reset d c
-    → exchange_with (Ok Done) new.state (next_cids_of after)
-    ≡ exchange_of b.state (next_cids_of d) (record { controller = c; act = Reset })
-was_reset b new d after c s is =
-    let same = cids_reset d after c is in λ i. exchange_with (Ok Done) (s i) (same i)
+module _ {B : Type 0} {goes : Going B} {c : ℕ} {k : Command} {answer : Answer} {s new : State} {d after : DriverValue}
+    {old at : B} (h : Sent goes c k answer s new d after old at) where
+  -- it is the exchange of its order
+  pub is_exchange : c < length d.pairs
+      → exchange_with answer new (next_cids_of after) ≡ exchange_of s (next_cids_of d) (order_of c k)
+  is_exchange below = grind (arith, common_steps, next_cid_is, cids_after)
 
--- a command doesn't change the number of queue pairs
-pub still_known : (d after : DriverValue) (ctrl : ℕ) → after ≡ after_command d ctrl → ctrl < length d.pairs
-    → ctrl < length after.pairs
-still_known d after ctrl e below = subst (λ n. ctrl < n) (sym (same_pairs d after ctrl e)) below
+  -- it went alone
+  pub went_alone : GoesAll goes d old after at (alone c k ∷ [])
+  went_alone = (at, h.steps, (h.driver ∙ sym (after_first d c), refl))
+
+  -- it doesn't change the number of queue pairs
+  pub still_known : c < length d.pairs → c < length after.pairs
+  still_known below = subst (λ n. c < n) (sym (same_pairs d after c h.driver)) below

@@ -1,31 +1,15 @@
 -- How the parts of `list` form the whole.
-use Rattle.nv_script.proofs.Words.{[], ℕ, ◌++◌, ◌+◌, ◌<◌, ◌∙◌, ◌∷◌, ◌≡◌, Answer, AreBegun, Batch, Command, Contains}
-use Rattle.nv_script.proofs.Words.{Contains-append_left, Err, IsListed, List, ListLeaves, Listing, NoText, Ok, Order}
-use Rattle.nv_script.proofs.Words.{Result, Send, Standing, State, answers_to, ap, append-nil, append_assoc, arith}
-use Rattle.nv_script.proofs.Words.{asked, asked_all, common_steps, drop, exchange_of, fold-append, get_or, length}
-use Rattle.nv_script.proofs.Words.{listing_of, listing_after, map, no_listing, order_of, orders_in, orders_in_all, refl}
-use Rattle.nv_script.proofs.Words.{subst, sym}
-use Rattle.std.proofs.lemmas.List.{at_drop_more}
-use Rattle.std.proofs.lemmas.List.Concat.{flat_map-append}
-use Rattle.std.proofs.lemmas.List.Elements.{Contains-append_right}
+use Rattle.nv_script.proofs.Words.{[], ℕ, ◌++◌, ◌+◌, ◌<◌, ◌∙◌, ◌∷◌, ◌≡◌, Answer, AreBegun, AreListed, Batch, Command}
+use Rattle.nv_script.proofs.Words.{Contains, Contains-append_left, Contains-append_right, Err, IsListed, List}
+use Rattle.nv_script.proofs.Words.{ListLeaves, Listing, NoText, Ok, Order, Result, Send, Standing, State, answers_to}
+use Rattle.nv_script.proofs.Words.{ap, append-nil, append_assoc, arith, asked, asked_all, at_drop_more, common_steps}
+use Rattle.nv_script.proofs.Words.{drop, exchange_of, flat_map-append, fold-append, get_or, length, listing_after}
+use Rattle.nv_script.proofs.Words.{listing_of, map, no_listing, order_of, orders_in, orders_in_all, refl, subst, sym}
 use Rattle.nv_script.specs.declared.performing.NoText.TheVariants as stop
 
 -- before the first command
 abbrev pub first_standing : State → List ℕ → Standing
 first_standing s next_cids = record { state = s; next_cids = next_cids; listing = no_listing }
-
--- if all batches were carried out, they were begun
-pub begun_all : (w : Standing) (batches : List Batch) (s : State) (next_cids : List ℕ) (went : List Batch → Type 0)
-    → s ≡ (asked_all w (orders_in_all batches)).state → next_cids ≡ (asked_all w (orders_in_all batches)).next_cids
-    → went batches → AreBegun w batches s next_cids went
-begun_all w batches s next_cids went state next gone = record {
-  done = batches;
-  later = [];
-  split = sym (append-nil batches);
-  subsystem = state;
-  next = next;
-  gone = gone;
-}
 
 -- the answers to some orders and to more are the answers to the first and then to the others after them
 answers-append : (w : Standing) (orders more : List Order)
@@ -76,8 +60,14 @@ module _ (w : Standing) (done all : List Batch) where
       (Contains-append_right (answers_to w first) (answers_to there these ++ answers_to (asked_all there these) later) a
       (Contains-append_left (answers_to there these) (answers_to (asked_all there these) later) a h))
 
+  -- if all batches are done, what was listed is what all batches list
+  pub listed_all : {s : State} {next_cids : List ℕ} {listing : Listing} {went : List Batch → Type 0} → all ≡ done
+      → AreListed w done s next_cids listing went → AreListed w all s next_cids listing went
+  listed_all {s} {next_cids} {listing} {went} is h =
+      subst (λ bs. AreListed w bs s next_cids listing went) (sym is) h
+
   -- if the standing after further batches is reached, so is the standing after all batches
-  pub listed_after : (batches : List Batch) (s : State) (next_cids : List ℕ) (listing : Listing)
+  listed_after : (batches : List Batch) (s : State) (next_cids : List ℕ) (listing : Listing)
       → all ≡ done ++ batches
       → IsListed (asked_all there (orders_in_all batches)) s next_cids listing
       → IsListed (asked_all w (orders_in_all all)) s next_cids listing
@@ -102,22 +92,24 @@ module _ (w : Standing) (done all : List Batch) where
     }
 
     -- if a stop is right for some batches after those that were carried out, it is right for all batches
-    pub stopped_within : (A B : Type 0) (e : NoText) (batches rest : List Batch) (s : State) (next_cids : List ℕ)
-        (listing now : Listing) → all ≡ done ++ (batches ++ rest)
+    pub stopped_within : (A : Type 0) (e : NoText) (batches rest : List Batch) (s : State) (next_cids : List ℕ)
+        (listing : Listing) → all ≡ done ++ (batches ++ rest)
         → ListLeaves {A = A} (Err e) there batches s next_cids listing then
-        → ListLeaves {A = B} (Err e) w all s next_cids now went
-    stopped_within A B (stop.Refused status) batches rest s next_cids listing now is h =
+        → ListLeaves {A = A} (Err e) w all s next_cids listing went
+    stopped_within A (stop.Refused status) batches rest s next_cids listing is h =
         answered_within batches rest (Err status) is h
-    stopped_within A B stop.Memory batches rest s next_cids listing now is h =
-        begun_within batches rest s next_cids is h
-    stopped_within A B stop.NoReady batches rest s next_cids listing now is h = absurd h
+    stopped_within A stop.Memory batches rest s next_cids listing is h = begun_within batches rest s next_cids is h
+    stopped_within A stop.NoReady batches rest s next_cids listing is h = absurd h
 
     -- if a result is right for the further batches, it is right for all batches
     pub leaves_after : {A : Type 0} (r : Result A NoText) (batches : List Batch) (s : State) (next_cids : List ℕ)
         (listing : Listing) → all ≡ done ++ batches
         → ListLeaves r there batches s next_cids listing then → ListLeaves r w all s next_cids listing went
     leaves_after (Ok x) batches s next_cids listing is h =
-        (listed_after batches s next_cids listing is h.0, subst went (sym is) (more batches h.1))
+        record {
+          listed = listed_after batches s next_cids listing is h.listed;
+          gone = subst went (sym is) (more batches h.gone);
+        }
     leaves_after {A = A} (Err e) batches s next_cids listing is h =
-        stopped_within A A e batches [] s next_cids listing listing
+        stopped_within A e batches [] s next_cids listing
         (is ∙ ap (λ x. done ++ x) (sym (append-nil batches))) h

@@ -1,12 +1,10 @@
 -- The commands of `list` in a well-formed subsystem, controller by controller.
-use Rattle.nv_script.proofs.Words.{[], ℕ, ◌++◌, ◌+◌, ◌-◌, ◌<◌, ◌∙◌, ◌∷◌, ◌≡◌, ◌≤◌, ActiveList, Batch, Bool}
-use Rattle.nv_script.proofs.Words.{IdentifyController, IsAlike, IsWellFormed, List, Order, State, above, active_nsids}
-use Rattle.nv_script.proofs.Words.{alone, ap, append-nil, arith, batches_of_controller, common_steps, controller}
-use Rattle.nv_script.proofs.Words.{false, flat_map, if◌then◌else◌, length, namespace_batches, nat_lt, orders_in_all}
+use Rattle.nv_script.proofs.Words.{[], ℕ, ◌++◌, ◌+◌, ◌-◌, ◌<◌, ◌∙◌, ◌∷◌, ◌≡◌, ◌≤◌, ActiveList, All, All-tail, Batch}
+use Rattle.nv_script.proofs.Words.{Bool, IdentifyController, IsAlike, IsInside, IsWellFormed, List, Order, State, above}
+use Rattle.nv_script.proofs.Words.{active_inside, active_nsids, alone, ap, append-nil, arith, attached}
+use Rattle.nv_script.proofs.Words.{batches_of_controller, common_steps, controller, false, filter, flat_map}
+use Rattle.nv_script.proofs.Words.{if◌then◌else◌, length, namespace, namespace_batches, nat_lt, orders_in_all}
 use Rattle.nv_script.proofs.Words.{orders_of, range_with_len, subst, suc, sym, true}
-use Rattle.std.specs.Prelude.{All, filter}
-use Rattle.std.proofs.lemmas.List.Elements.{All-tail}
-use Rattle.nv_model.proofs.LookupLaws.{IsInside, active_inside, attached, namespace}
 use Rattle.nv_script.proofs.GroupLaws.{controller_orders, list_orders, namespace_orders, orders_of_controller}
 use Rattle.nv_script.proofs.LookupLaws.{AreLookups, sends}
 use Rattle.nv_line.specs.declared.request.Query.TheVariants as query
@@ -15,7 +13,7 @@ use Rattle.nv_line.specs.declared.request.Query.TheVariants as query
 
 module _ (nn : ℕ) where
   -- orders that are lookups and more lookups are lookups together
-  pub lookups-append : (os more : List Order) → AreLookups nn os → AreLookups nn more → AreLookups nn (os ++ more)
+  lookups-append : (os more : List Order) → AreLookups nn os → AreLookups nn more → AreLookups nn (os ++ more)
   lookups-append [] more h k = k
   lookups-append (o ∷ os) more h k = (h.0, lookups-append os more h.1 k)
 
@@ -63,21 +61,18 @@ list_lookups s w =
 
 -- ---- controller by controller
 
--- in alike states, a controller gets the same batches
-pub same_batches : (s now : State) (c : ℕ) → IsAlike s now → batches_of_controller now c ≡ batches_of_controller s c
-same_batches s now c h =
-    ap (λ ns. alone c IdentifyController ∷ alone c (ActiveList 0) ∷ namespace_batches c (above 0 ns)) (h.active c)
-
 -- the batches of a controller and of the later ones
 abbrev pub batches_from : State → ℕ → ℕ → List Batch
 batches_from s i n = flat_map (batches_of_controller s) (range_with_len i (n - i))
 
--- the batches that are left are the next controller's, and then the later ones'
-pub next_controller : (s : State) (i n : ℕ) (all done : List Batch) → i < n → all ≡ done ++ batches_from s i n
-    → all ≡ done ++ (batches_of_controller s i ++ batches_from s (i + 1) n)
-next_controller s i n all done below e =
+-- the batches that are left are those of the next controller in a state that is alike, and then the later ones'
+pub next_controller : (s now : State) (i n : ℕ) (all done : List Batch) → IsAlike s now → i < n
+    → all ≡ done ++ batches_from s i n → all ≡ done ++ (batches_of_controller now i ++ batches_from s (i + 1) n)
+next_controller s now i n all done alike below e =
     let more : n - i ≡ suc (n - (i + 1)) = omega arith in
     e ∙ ap (λ m. done ++ flat_map (batches_of_controller s) (range_with_len i m)) more
+    ∙ ap (λ ns. done ++ ((alone i IdentifyController ∷ alone i (ActiveList 0) ∷ namespace_batches i (above 0 ns))
+    ++ batches_from s (i + 1) n)) (sym (alike.active i))
 
 -- if no controller is left, all batches are done
 pub no_controller_left : (s : State) (i n : ℕ) (all done : List Batch) → n ≤ i → all ≡ done ++ batches_from s i n

@@ -1,10 +1,9 @@
 -- No command of `list` is refused, and its commands don't depend on those before.
-use Rattle.nv_script.proofs.Words.{[], ℕ, ◌∙◌, ◌∷◌, ◌≡◌, Act, Answer, Command, Contains, Done, Err, IsAlike, List, Ok}
-use Rattle.nv_script.proofs.Words.{Order, Reply, Send, Standing, State, Status, alike-join, answers_to, ap, arith}
-use Rattle.nv_script.proofs.Words.{asked, asked_all, exchange_by, get_or, get_or-map, length-map, map, outcome_after}
-use Rattle.nv_script.proofs.Words.{outcome_of, refl, reply_of, subst, sym}
-use Rattle.std.specs.List.{AllByRecursion}
-use Rattle.nv_model.proofs.LookupLaws.{IsLookup, alike-self, looked_alike, looked_received}
+use Rattle.nv_script.proofs.Words.{[], ℕ, ◌∙◌, ◌∷◌, ◌≡◌, Act, AllByRecursion, Answer, Command, Contains, Done, Err}
+use Rattle.nv_script.proofs.Words.{IsAlike, IsLookup, List, Ok, Order, Reply, Send, Standing, State, Status, alike-join}
+use Rattle.nv_script.proofs.Words.{alike-self, answers_to, ap, arith, asked, asked_all, exchange_by, get_or, get_or-map}
+use Rattle.nv_script.proofs.Words.{length-map, looked_alike, looked_received, map, outcome_after, outcome_of, refl}
+use Rattle.nv_script.proofs.Words.{reply_of, subst, sym}
 use Rattle.nv_script.proofs.OutcomeLaws.{accepted_with}
 
 -- an act of `list`, if NSIDs go up to nn

@@ -1,14 +1,9 @@
 -- Bytes that are split at their newlines.
-use Rattle.nv_script.proofs.Words.{[], ℕ, ◌++◌, ◌+◌, ◌<◌, ◌∙◌, ◌∷◌, ◌≡◌, Bool, List, State, after, ap, append-nil}
-use Rattle.nv_script.proofs.Words.{append_assoc, arith, as_line, buffer_after, buffer_of, common_steps, drop, eqb}
-use Rattle.nv_script.proofs.Words.{false, fold-append, get_or, is_byte, joined_lines, length, length-append, nat_tests}
-use Rattle.nv_script.proofs.Words.{pieces, refl, suc, sym, take, take-append-drop, true, whole}
-use Rattle.std.proofs.Common.{cond, fold}
-use Rattle.std.proofs.lemmas.List.{take_more}
-use Rattle.std.specs.Prelude.{None, Option, Some, nat_le}
-use Rattle.memchr.specs.Find.{Nowhere, Passes}
-use Rattle.nv_script.specs.Results.{start}
-use Rattle.nv_script.specs.ScriptLines.{Pieces, with_byte}
+use Rattle.nv_script.proofs.Words.{[], ℕ, ◌++◌, ◌+◌, ◌<◌, ◌∙◌, ◌∷◌, ◌≡◌, Bool, List, None, Nowhere, Option, Passes}
+use Rattle.nv_script.proofs.Words.{Pieces, Some, State, after, ap, append-nil, append_assoc, arith, as_line}
+use Rattle.nv_script.proofs.Words.{buffer_after, buffer_of, common_steps, cond, drop, eqb, false, fold, fold-append}
+use Rattle.nv_script.proofs.Words.{get_or, is_byte, joined_lines, length, length-append, nat_le, nat_tests, pieces}
+use Rattle.nv_script.proofs.Words.{refl, start, suc, sym, take, take-append-drop, take_more, true, whole, with_byte}
 
 -- the bytes with i + 1 bytes of a piece are the bytes with i bytes of it and one more
 pub taken-more : (bytes piece : List ℕ) (i : ℕ) → i < length piece

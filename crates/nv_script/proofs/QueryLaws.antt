@@ -1,21 +1,20 @@
 -- What a query leaves behind, by how many of its orders were carried out.
-use Rattle.nv_script.proofs.Words.{[], ℕ, ◌++◌, ◌+◌, ◌-◌, ◌∙◌, ◌∷◌, ◌≡◌, Ask, Batch, Command, Controller, Err, Exchange}
-use Rattle.nv_script.proofs.Words.{IdentifyController, List, NoTextLeaves, None, Ok, Order, Outcome, Query, QueryLeaves}
-use Rattle.nv_script.proofs.Words.{Refusal, Reply, Request, Result, Shown, State, Status, alone, answer_received, ap}
-use Rattle.nv_script.proofs.Words.{arith, batches_of, batches_of_one, common_steps, exchange_of, exchange_with, get_or}
-use Rattle.nv_script.proofs.Words.{length, option_map_or, order_of, orders_in, orders_in_all, orders_of, outcome_after}
-use Rattle.nv_script.proofs.Words.{outcome_of, refl, refusal_of, step_by, subst, sym, take_all}
-use Rattle.std.proofs.Common.{Option, Some}
+use Rattle.nv_script.proofs.Words.{[], ℕ, ◌+◌, ◌<◌, ◌∙◌, ◌∷◌, ◌≡◌, Answer, AskLeaves, Batch, Command, Controller, Done}
+use Rattle.nv_script.proofs.Words.{DriverValue, Err, Exchange, GoesAll, Going, IdentifyController, IsReached, List}
+use Rattle.nv_script.proofs.Words.{NoText, NoTextLeaves, None, Ok, Option, Outcome, Query, QueryLeaves, Refusal, Reply}
+use Rattle.nv_script.proofs.Words.{Request, Restart, Result, Shown, Some, State, Status, after, after_reset, alone}
+use Rattle.nv_script.proofs.Words.{answer_received, ap, arith, batches_of, batches_with, cids_reset, common_steps}
+use Rattle.nv_script.proofs.Words.{entry_count, errors_command, get_or, length, next_cids_of, option_map_or, order_of}
+use Rattle.nv_script.proofs.Words.{orders_in_all, orders_of, outcome_after, outcome_of, refl, refusal_of, reset}
+use Rattle.nv_script.proofs.Words.{shown_by, shown_of, step_by, subst, sym, take_all}
 use Rattle.nv_layout.specs.IdCtrl.{id_ctrl_of_bytes}
 use Rattle.nv_layout.specs.Parts.{number_at}
 use Rattle.nv_model.specs.IdentifyController.{id_ctrl_of, no_controller}
-use Rattle.nv_model.specs.Logs.{entry_count}
 use Rattle.nv_line.specs.declared.request.Query.TheVariants.{One}
-use Rattle.nv_script.specs.Orders.{batches_with, errors_command}
+use Rattle.nv_script.proofs.GoingLaws.{goes-append}
+use Rattle.nv_script.proofs.LinkLaws.{Sent, is_exchange, still_known, went_alone}
 use Rattle.nv_script.specs.inner.Orders.{log_command}
-use Rattle.nv_script.specs.inner.Performing.{AskLeaves, IsReached}
-use Rattle.nv_script.specs.Shown.{shown_by, shown_of}
-use Rattle.nv_script.proofs.OutcomeLaws.{accepted_first, accepted_with, refused_at_once, refused_with}
+use Rattle.nv_script.proofs.OutcomeLaws.{accepted_with, outcome_first, refused_with}
 use Rattle.nv_command.specs.declared.reply.Reply.TheVariants as reply
 use Rattle.nv_line.specs.declared.request.Ask.TheVariants as ask
 use Rattle.nv_script.specs.declared.performing.NoText.TheVariants as stop
@@ -43,11 +42,6 @@ module _ (s : State) (next_cids : List ℕ) (c entries : ℕ) where
   log_next None r e = grind (arith, common_steps, reply_or_done, identity_of_kept)
   log_next (Some refusal) r e = absurd (cc)
 
-  -- the same if the reply is the answer in the exchange of that order
-  log_is_next : (r : Reply) → Ok r ≡ (exchange_of s next_cids (order_of c IdentifyController)).answer
-      → log_command entries r ≡ errors_command entries (entry_count s c)
-  log_is_next r e = log_next (refusal_of s c IdentifyController) r e
-
 -- ---- what an outcome leaves
 
 module _ (s now : State) (next_cids next : List ℕ) (q : Query) (went : List Batch → Type 0)
@@ -66,7 +60,7 @@ module _ (s now : State) (next_cids next : List ℕ) (q : Query) (went : List Ba
   }
 
   -- if the outcome is a refusal in the last batch, a stop because of it is right
-  pub left_refused : (replies : List Reply) (status : Status) → whole ≡ refused_with replies status now next
+  left_refused : (replies : List Reply) (status : Status) → whole ≡ refused_with replies status now next
       → batches_with (length replies + 1) (batches_of s q) ≡ batches_of s q
       → NoTextLeaves (stop.Refused status) q s next_cids now next went
   left_refused replies status e last = (
@@ -84,86 +78,79 @@ module _ (s now : State) (next_cids next : List ℕ) (q : Query) (went : List Ba
     reached (accepted_with replies now next) e refl refl,
   )
 
--- ---- the orders of an ask
+-- ---- an ask
 
--- its only order
-module _ (s now : State) (next_cids next : List ℕ) (c : ℕ) (a : Ask) (b : Batch) (o : Order)
-    (only : batches_of_one s c a ≡ b ∷ []) (one : orders_in b ≡ o ∷ []) (went : List Batch → Type 0)
-    (gone : went (b ∷ [])) where
-  -- the ask has this order
-  orders : orders_of s (One c a) ≡ o ∷ []
-  orders = ap orders_in_all only ∙ ap (λ os. os ++ []) one
+-- what is left after an answer: its reply, or a stop because of its refusal
+abbrev pub left_with : Answer → Result Reply NoText
+left_with (Ok reply) = Ok reply
+left_with (Err status) = Err (stop.Refused status)
 
-  -- its batches went
-  all_gone : went (batches_of_one s c a)
-  all_gone = subst went (sym only) gone
+-- the only command of an ask was answered
+pub send_left : {B : Type 0} {goes : Going B} {c : ℕ} {s now : State} {d after : DriverValue} {old at : B}
+    (answer : Answer) {k : Command} → Sent goes c k answer s now d after old at → c < length d.pairs
+    → AskLeaves (left_with answer) c (ask.Send k) s (next_cids_of d) now (next_cids_of after)
+    (GoesAll goes d old after at)
+send_left {c = c} {s = s} {now = now} {d = d} {after = after} (Ok reply) {k} h below =
+    left_shown s now (next_cids_of d) (next_cids_of after) (One c (ask.Send k)) _ (went_alone h)
+    (shown_by (ask.Send k) reply) (reply ∷ [])
+    (outcome_first s now (next_cids_of d) (next_cids_of after) (order_of c k) [] (Ok reply) (is_exchange h below)) refl
+send_left {c = c} {s = s} {now = now} {d = d} {after = after} (Err status) {k} h below =
+    left_refused s now (next_cids_of d) (next_cids_of after) (One c (ask.Send k)) _ (went_alone h) [] status
+    (outcome_first s now (next_cids_of d) (next_cids_of after) (order_of c k) [] (Err status) (is_exchange h below))
+    refl
 
-  -- if the only order of an ask is accepted, its reply is right
-  pub only_accepted : (reply : Reply) → exchange_with (Ok reply) now next ≡ exchange_of s next_cids o
-      → AskLeaves (Ok reply) c a s next_cids now next went
-  only_accepted reply e =
-      left_shown s now next_cids next (One c a) went all_gone (shown_by a reply) (reply ∷ [])
-      (ap (outcome_of s next_cids) orders ∙ accepted_first s now next_cids next o [] reply e) refl
+-- a controller was reset
+pub reset_left : {B : Type 0} (goes : Going B) (c : ℕ) (s now : State) (d after : DriverValue) (old at : B)
+    → now ≡ reset s c → after ≡ after_reset d c → goes d (Restart c) old at
+    → AskLeaves (Ok Done) c ask.Reset s (next_cids_of d) now (next_cids_of after) (GoesAll goes d old after at)
+reset_left goes c s now d after old at state driver steps =
+    left_shown s now (next_cids_of d) (next_cids_of after) (One c ask.Reset) _ (at, steps, (driver, refl))
+    (shown_by ask.Reset Done) (Done ∷ [])
+    (λ i. accepted_with (Done ∷ []) (sym state i) (sym (cids_reset d after c driver) i)) refl
 
-  -- if the only order of an ask is refused, a stop because of it is right
-  pub only_refused : (status : Status) → exchange_with (Err status) now next ≡ exchange_of s next_cids o
-      → NoTextLeaves (stop.Refused status) (One c a) s next_cids now next went
-  only_refused status e =
-      left_refused s now next_cids next (One c a) went all_gone [] status
-      (ap (outcome_of s next_cids) orders ∙ refused_at_once s now next_cids next o [] status e)
-      (subst (λ bs. batches_with 1 bs ≡ bs) (sym only)
-      (ap (λ os. b ∷ batches_with (1 - length os) []) one))
+-- a controller said how many errors it keeps
+module _ {B : Type 0} {goes : Going B} {c : ℕ} {s now : State} {d second : DriverValue} {old at : B} {identity : Reply}
+    {k : Command} (one : Sent goes c IdentifyController (Ok identity) s now d second old at)
+    (below : c < length d.pairs) (entries : ℕ) (is : k ≡ log_command entries identity) where
+  -- the log command is the one for as many entries as the controller keeps
+  log_is : k ≡ errors_command entries (entry_count s c)
+  log_is = is ∙ log_next s (next_cids_of d) c entries (refusal_of s c IdentifyController) identity
+      (ap (λ (x : Exchange). x.answer) (is_exchange one below))
 
--- a controller says how many errors it keeps, and its error log is read
-module _ (s now : State) (next_cids next : List ℕ) (c entries : ℕ) where
-  abbrev first : Order
-  first = order_of c IdentifyController
-
-  -- the ask for an error log
-  abbrev log : Ask
-  log = ask.ErrorLog entries
-
-  -- the order that reads the error log
-  abbrev later : List Order
-  later = order_of c (errors_command entries (entry_count s c)) ∷ []
-
-  module _ (last : State) (end : List ℕ) (identity : Reply)
-      (e : exchange_with (Ok identity) now next ≡ exchange_of s next_cids first) (k : Command)
-      (is : k ≡ log_command entries identity) (went : List Batch → Type 0)
-      (gone : went (alone c IdentifyController ∷ alone c k ∷ [])) where
-    -- the log command is the one for as many entries as the controller keeps
-    log_is : k ≡ errors_command entries (entry_count s c)
-    log_is = is ∙ log_is_next s next_cids c entries identity (ap (λ (x : Exchange). x.answer) e)
-
-    -- the outcome of both orders is the first reply and then the outcome of the second order
-    begun : outcome_of s next_cids (orders_of s (One c log))
-        ≡ outcome_after (Ok identity) now next (outcome_of now next (order_of c k ∷ []))
+  -- that command was answered
+  module _ (answer : Answer) {last : State} {after : DriverValue} {end : B}
+      (two : Sent goes c k answer now last second after at end) where
+    -- the outcome is the first reply, and then the outcome of the log command
+    begun : outcome_of s (next_cids_of d) (orders_of s (One c (ask.ErrorLog entries)))
+        ≡ outcome_after (Ok identity) now (next_cids_of second)
+        (outcome_after answer last (next_cids_of after) (accepted_with [] last (next_cids_of after)))
     begun =
-        accepted_first s now next_cids next first later identity e
-        ∙ ap (λ x. outcome_after (Ok identity) now next (outcome_of now next (order_of c x ∷ []))) (sym log_is)
+        outcome_first s now (next_cids_of d) (next_cids_of second) (order_of c IdentifyController)
+        (order_of c (errors_command entries (entry_count s c)) ∷ []) (Ok identity) (is_exchange one below)
+        ∙ ap (λ x. outcome_after (Ok identity) now (next_cids_of second) (outcome_of now (next_cids_of second)
+        (order_of c x ∷ []))) (sym log_is)
+        ∙ ap (outcome_after (Ok identity) now (next_cids_of second))
+        (outcome_first now last (next_cids_of second) (next_cids_of after) (order_of c k) [] answer
+        (is_exchange two (still_known one below)))
 
     -- both batches went
-    both_gone : went (batches_of s (One c log))
-    both_gone = subst (λ x. went (alone c IdentifyController ∷ alone c x ∷ [])) log_is gone
+    both_went : GoesAll goes d old after end (batches_of s (One c (ask.ErrorLog entries)))
+    both_went =
+        subst (λ x. GoesAll goes d old after end (alone c IdentifyController ∷ alone c x ∷ [])) log_is
+        (goes-append goes (alone c IdentifyController ∷ []) (alone c k ∷ []) d second after old at end (went_alone one)
+        (went_alone two))
 
-    -- if the second order is refused, a stop because of it is right
-    pub second_refused : (status : Status)
-        → exchange_with (Err status) last end ≡ exchange_of now next (order_of c k)
-        → NoTextLeaves (stop.Refused status) (One c log) s next_cids last end went
-    second_refused status e2 =
-        left_refused s last next_cids end (One c log) went both_gone (identity ∷ []) status
-        (begun
-        ∙ ap (outcome_after (Ok identity) now next) (refused_at_once now last next end (order_of c k) [] status e2))
-        refl
-
-    -- if both orders are accepted, the reply to the second one is right
-    pub both_accepted : (reply : Reply) → exchange_with (Ok reply) last end ≡ exchange_of now next (order_of c k)
-        → AskLeaves (Ok reply) c log s next_cids last end went
-    both_accepted reply e2 =
-        left_shown s last next_cids end (One c log) went both_gone (shown_by log reply) (identity ∷ reply ∷ [])
-        (begun
-        ∙ ap (outcome_after (Ok identity) now next) (accepted_first now last next end (order_of c k) [] reply e2))
-        refl
+  pub log_left : (answer : Answer) {last : State} {after : DriverValue} {end : B}
+      → Sent goes c k answer now last second after at end
+      → AskLeaves (left_with answer) c (ask.ErrorLog entries) s (next_cids_of d) last (next_cids_of after)
+      (GoesAll goes d old after end)
+  log_left (Ok reply) {last} {after} two =
+      left_shown s last (next_cids_of d) (next_cids_of after) (One c (ask.ErrorLog entries)) _
+      (both_went (Ok reply) two) (shown_by (ask.ErrorLog entries) reply) (identity ∷ reply ∷ [])
+      (begun (Ok reply) two) refl
+  log_left (Err status) {last} {after} two =
+      left_refused s last (next_cids_of d) (next_cids_of after) (One c (ask.ErrorLog entries)) _
+      (both_went (Err status) two) (identity ∷ []) status (begun (Err status) two) refl
 
 -- ---- a request
 

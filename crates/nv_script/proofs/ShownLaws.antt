@@ -1,16 +1,14 @@
 -- Whatever is accepted is shown.
-use Rattle.nv_script.proofs.Words.{[], ℕ, ◌++◌, ◌∙◌, ◌∷◌, ◌≡◌, ◌≤◌, Act, Ask, Bool, Command, Controller, Err, Exchange}
-use Rattle.nv_script.proofs.Words.{List, Listing, None, Ok, Order, Outcome, Query, Refusal, Reply, Result, Send, Shown}
-use Rattle.nv_script.proofs.Words.{State, Status, above, active_nsids, answer_received, ap, append-nil, append_assoc}
-use Rattle.nv_script.proofs.Words.{arith, common_steps, exchange_by, exchange_of, false, flat_map, get_or}
-use Rattle.nv_script.proofs.Words.{if◌then◌else◌, length, listing_of, listing_after, map, map-append, nat_lt}
-use Rattle.nv_script.proofs.Words.{no_listing}
-use Rattle.nv_script.proofs.Words.{nat_tests, option_map_or, order_of, orders_of, outcome_after, outcome_of}
-use Rattle.nv_script.proofs.Words.{range_with_len, refl, refusal_of, reply_of, step_by, suc, sym, true}
-use Rattle.std.proofs.Common.{◌/◌, Option, Some, zero}
-use Rattle.std.specs.Prelude.{IsSome}
-use Rattle.std.proofs.lemmas.List.Concat.{flat_map-append}
-use Rattle.nv_command.specs.Received.{first_of_log, received}
+use Rattle.nv_script.proofs.Words.{[], ℕ, ◌++◌, ◌/◌, ◌∙◌, ◌∷◌, ◌≡◌, ◌≤◌, Act, Ask, Bool, Command, Controller, Err}
+use Rattle.nv_script.proofs.Words.{Exchange, IdentifyController, IdentifyNamespace, IsSome, List, Listing, None, Ok}
+use Rattle.nv_script.proofs.Words.{Option, Order, Outcome, Query, Refusal, Reply, Result, Row, Send, Shown, Some, State}
+use Rattle.nv_script.proofs.Words.{Status, above, active_nsids, answer_received, ap, append-nil, append_assoc, arith}
+use Rattle.nv_script.proofs.Words.{common_steps, controller_at, exchange_by, exchange_of, false, feature_set}
+use Rattle.nv_script.proofs.Words.{feature_value, first_of_log, first_refusal, flat_map, flat_map-append, get_or}
+use Rattle.nv_script.proofs.Words.{if◌then◌else◌, is_supported, length, listing_after, listing_of, log_reply, map}
+use Rattle.nv_script.proofs.Words.{map-append, nat_lt, nat_tests, no_listing, option_map_or, order_of, orders_of}
+use Rattle.nv_script.proofs.Words.{outcome_after, outcome_of, range_with_len, received, refl, refusal_of, reply_of, row}
+use Rattle.nv_script.proofs.Words.{shown_by, shown_of_one, step_by, suc, supported, sym, true, zero}
 use Rattle.nv_command.specs.LogPage.{log_asked}
 use Rattle.nv_command.specs.declared.log_page.LogPage.{LogPage}
 use Rattle.nv_command.specs.declared.log_page.LogPage.TheVariants.{ErrorInformation, Health}
@@ -19,15 +17,10 @@ use Rattle.nv_layout.specs.Feature.{feature_of}
 use Rattle.nv_layout.specs.declared.feature.Feature.{Feature}
 use Rattle.nv_model.proofs.ManagementLaws.{none_holds}
 use Rattle.nv_model.specs.Features.{supported_rows}
-use Rattle.nv_model.specs.Logs.{log_reply}
-use Rattle.nv_model.specs.Conditions.{Row, first_refusal, row}
-use Rattle.nv_model.specs.State.{controller_at}
-use Rattle.nv_model.specs.WellFormed.{is_supported, supported}
 use Rattle.nv_print.specs.Message.{select_of}
 use Rattle.nv_print.specs.declared.select.Select.{Select}
 use Rattle.nv_script.proofs.GroupLaws.{list_orders, namespace_orders, orders_of_controller}
 use Rattle.nv_script.specs.EachShown.{EachIsShown, IsListed, IsShown, attached_numbers, device_numbers}
-use Rattle.nv_script.specs.Shown.{feature_set, feature_value, shown_by, shown_of_one}
 use Rattle.nv_command.specs.declared.command.Command.TheVariants as command
 use Rattle.nv_command.specs.declared.reply.Reply.TheVariants as reply
 use Rattle.nv_line.specs.declared.request.Ask.TheVariants as ask
@@ -117,13 +110,6 @@ module _ (s : State) (next_cids : List ℕ) (c : ℕ) (show : List Reply → Opt
       by_refusal (refusal_of s c k) x.state x.next_cids is e
 
 module _ (s : State) (next_cids : List ℕ) (c : ℕ) where
-  -- a command that comes alone and is accepted is shown if its reply is shown
-  only_is_shown : (a : Ask) (k : Command)
-      → (refusal_of s c k ≡ None → IsSome (shown_by a (received k (reply_of s c k))))
-      → (outcome_of s next_cids (order_of c k ∷ [])).refusal ≡ None
-      → IsSome (shown_of_one a (outcome_of s next_cids (order_of c k ∷ [])).replies)
-  only_is_shown a k is e = last_is_shown s next_cids c (shown_of_one a) k is e
-
   -- the entries of an error log or the health log, as they are received, are shown for any ask
   log_is_shown : (a : Ask) (room : ℕ) (page : LogPage)
       → IsSome (shown_by a (first_of_log room (log_reply s c page)))
@@ -142,7 +128,7 @@ module _ (s : State) (next_cids : List ℕ) (c : ℕ) where
 
   -- what one controller is asked is shown if none of its orders is refused
   one_is_shown : (a : Ask) → IsShown s next_cids (query.One c a)
-  one_is_shown (ask.Send k) e = only_is_shown (ask.Send k) k (command_is_shown k) e
+  one_is_shown (ask.Send k) e = last_is_shown s next_cids c (shown_of_one (ask.Send k)) k (command_is_shown k) e
   one_is_shown ask.Reset e = refl
   one_is_shown (ask.ErrorLog entries) e = grind (arith, common_steps, last_is_shown)
 

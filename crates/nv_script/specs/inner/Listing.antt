@@ -48,6 +48,12 @@ pub record IsListed (w : Standing) (state : State) (next_cids : List ℕ)
   pub next : next_cids ≡ w.next_cids
   pub listed : listing ≡ w.listing
 
+-- these batches went, were carried out, and their answers are listed
+pub record AreListed (w : Standing) (batches : List Batch) (state : State) (next_cids : List ℕ)
+    (listing : Listing) (went : List Batch → Type 0) : Type 0 where
+  pub listed : IsListed (asked_all w (orders_in_all batches)) state next_cids listing
+  pub gone : went batches
+
 -- some of the first batches went and were carried out
 pub record AreBegun (w : Standing) (batches : List Batch) (state : State) (next_cids : List ℕ)
     (went : List Batch → Type 0) : Type 0 where
@@ -64,12 +70,11 @@ IsHandedOn (stop.Refused status) answers = Contains answers (Err status)
 IsHandedOn stop.Memory answers = Unit {0}
 IsHandedOn stop.NoReady answers = ⊥
 
--- all of some batches went, were carried out and their answers are listed, or one of their orders was
--- refused so, or memory was refused among them
+-- what listing some batches leaves: all are listed, or one of their orders was refused so, or memory was refused
+-- among them
 abbrev pub ListLeaves : {A : Type 0} → Result A NoText → Standing → List Batch → State → List ℕ
     → Listing → (List Batch → Type 0) → Type 0
-ListLeaves (Ok done) w batches state next_cids listing went =
-    IsListed (asked_all w (orders_in_all batches)) state next_cids listing × went batches
+ListLeaves (Ok done) w batches state next_cids listing went = AreListed w batches state next_cids listing went
 ListLeaves (Err (stop.Refused status)) w batches state next_cids listing went =
     IsHandedOn (stop.Refused status) (answers_to w (orders_in_all batches))
 ListLeaves (Err stop.Memory) w batches state next_cids listing went = AreBegun w batches state next_cids went

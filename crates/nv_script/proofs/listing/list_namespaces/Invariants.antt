@@ -1,7 +1,5 @@
-use Rattle.nv_script.proofs.Words.{◌++◌, ◌≡◌, Batch, GoesAll, IsLinked, IsListed, List, Standing, asked_all, length}
-use Rattle.nv_script.proofs.Words.{namespace_batches, next_cids_of, orders_in_all}
-use Rattle.nv_driver.specs.BringingUp.{Still}
-use Rattle.nv_script.specs.Going.{Goes}
+use Rattle.nv_script.proofs.Words.{◌++◌, ◌≡◌, AreListed, Batch, Goes, GoesAll, IsLinked, IsListed, List, Standing}
+use Rattle.nv_script.proofs.Words.{Still, length, namespace_batches, next_cids_of}
 use Rattle.nv_script.proofs.listing.list_namespaces.Given as goal
 
 -- the first of the batches went
@@ -13,9 +11,9 @@ invariant-loop-rest g l = record {
       × (namespace_batches l.ctrl l.nsids ≡ done ++ namespace_batches l.ctrl l.rest)
       × ((w : Standing)
       → IsListed w (g.B.Bus.meaning l.initial.bus).state (next_cids_of l.initial.driver) l.initial.listing
-      → IsListed (asked_all w (orders_in_all done)) (g.B.Bus.meaning l.bus).state (next_cids_of l.driver) l.listing
-      × GoesAll (Goes g.B.Bus.meaning g.B.Bus.was_written (Still g.B.Bus.was_read) g.B.Zeroing.was_zeroed
-      g.B.Ringing.was_rung g.B.Bus.was_turned) l.initial.driver l.initial.bus l.driver l.bus done);
+      → AreListed w done (g.B.Bus.meaning l.bus).state (next_cids_of l.driver) l.listing
+      (GoesAll (Goes g.B.Bus.meaning g.B.Bus.was_written (Still g.B.Bus.was_read) g.B.Zeroing.was_zeroed
+      g.B.Ringing.was_rung g.B.Bus.was_turned) l.initial.driver l.initial.bus l.driver l.bus));
 }
 
 abbrev pub decreases-loop-rest : goal.decreases-loop-rest

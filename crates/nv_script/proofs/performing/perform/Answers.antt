@@ -1,4 +1,4 @@
-use Rattle.std.proofs.lemmas.Result.{err_from_is_err_and}
+use Rattle.nv_script.proofs.Words.{err_from_is_err_and}
 use Rattle.nv_script.proofs.QueryLaws.{no_text}
 use Rattle.nv_script.proofs.performing.perform.Goals as goal
 

@@ -1,5 +1,5 @@
-use Rattle.nv_script.proofs.Words.{[], ◌++◌, ◌+◌, arith, done_more, err_from_is_err_and, pieces, refl, take, whole}
-use Rattle.std.proofs.lemmas.List.{length-drop}
+use Rattle.nv_script.proofs.Words.{[], ◌++◌, ◌+◌, arith, done_more, err_from_is_err_and, length-drop, pieces, refl}
+use Rattle.nv_script.proofs.Words.{take, whole}
 use Rattle.nv_script.proofs.FeedLaws.{Fed-executed, Fed-last, Fed-line, Fed-none, cut_at}
 use Rattle.nv_script.proofs.running.feed.Goals as goal
 

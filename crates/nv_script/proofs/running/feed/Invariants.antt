@@ -1,9 +1,6 @@
-use Rattle.nv_script.proofs.Words.{ℕ, ◌++◌, ◌+◌, ◌≡◌, ◌≤◌, DriverValue, GoesAll, IsLinked, List, State, false}
-use Rattle.nv_script.proofs.Words.{left_at, length}
-use Rattle.std.proofs.Common.{Option}
-use Rattle.nv_driver.specs.BringingUp.{Still}
+use Rattle.nv_script.proofs.Words.{ℕ, ◌++◌, ◌+◌, ◌≡◌, ◌≤◌, DriverValue, Goes, GoesAll, IsLinked, List, Option, State}
+use Rattle.nv_script.proofs.Words.{Still, false, left_at, length}
 use Rattle.nv_script.proofs.FeedLaws.{Fed}
-use Rattle.nv_script.specs.Going.{Goes}
 use Rattle.nv_script.proofs.running.feed.Given as goal
 
 abbrev pub invariant-loop-end : goal.invariant-loop-end

@@ -1,5 +1,5 @@
-use Rattle.nv_script.proofs.Words.{[], ◌<◌, ◌∙◌, ◌≡◌, ap, arith, err_from_is_err_and, length, pieces, sym, whole}
-use Rattle.std.proofs.Common.{Some, rules}
+use Rattle.nv_script.proofs.Words.{[], ◌<◌, ◌∙◌, ◌≡◌, Some, ap, arith, err_from_is_err_and, length, pieces, rules, sym}
+use Rattle.nv_script.proofs.Words.{whole}
 use Rattle.nv_script.proofs.PieceLaws.{buffer_of-empty, buffer_of-some, whole-more}
 use Rattle.nv_script.proofs.RunLaws.{ends_whole, last_line, no_last}
 use Rattle.nv_script.proofs.running.finish.Goals.{else-not-is_empty, then-not-is_empty+in_ok-execute_line}

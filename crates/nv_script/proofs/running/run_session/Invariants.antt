@@ -1,8 +1,5 @@
-use Rattle.nv_script.proofs.Words.{ℕ, ◌≡◌, ◌≤◌, GoesAll, IsLinked, List, Stands, WasRead, buffer_of, false, left_at}
-use Rattle.nv_script.proofs.Words.{length, pieces, read_size, whole}
-use Rattle.std.proofs.Common.{◌*◌}
-use Rattle.nv_driver.specs.BringingUp.{Still}
-use Rattle.nv_script.specs.Going.{Goes}
+use Rattle.nv_script.proofs.Words.{ℕ, ◌*◌, ◌≡◌, ◌≤◌, Goes, GoesAll, IsLinked, List, Stands, Still, WasRead, buffer_of}
+use Rattle.nv_script.proofs.Words.{false, left_at, length, pieces, read_size, whole}
 use Rattle.nv_script.proofs.running.run_session.Given as goal
 
 abbrev pub invariant-loop-call : goal.invariant-loop-call

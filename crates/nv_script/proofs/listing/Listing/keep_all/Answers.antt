@@ -1,7 +1,5 @@
-use Rattle.nv_script.proofs.Words.{◌+◌, ◌<◌, ◌∙◌, ◌≡◌, Answer, IsOk, Send, ap, arith, drop, get_or, length, listing_of}
-use Rattle.nv_script.proofs.Words.{listing_after, map, order_of, sym, true}
-use Rattle.std.specs.Prelude.{is_ok}
-use Rattle.std.proofs.lemmas.List.Elements.{at_read}
+use Rattle.nv_script.proofs.Words.{◌+◌, ◌<◌, ◌∙◌, ◌≡◌, Answer, IsOk, Send, ap, arith, at_read, drop, get_or, is_ok}
+use Rattle.nv_script.proofs.Words.{length, listing_after, listing_of, map, order_of, sym, true}
 use borrow.Author.Count.{below_more}
 use Rattle.nv_script.proofs.ListLaws.{listing_more}
 use Rattle.nv_script.proofs.listing.Listing.keep_all.Goals as goal
