@@ -12,19 +12,15 @@ use Rattle.nv_command.specs.Nsid.{broadcast_nsid}
 use Rattle.nv_command.specs.declared.command.Command.{Command}
 use Rattle.nv_command.specs.declared.command.Command.TheVariants.{IdentifyController, Create, Delete, Attachment}
 use Rattle.nv_command.specs.declared.command.Command.TheVariants.{Format, SetFeature, GetLog}
-use Rattle.nv_command.specs.declared.status_code.StatusCode.TheVariants.{ControllerListInvalid, InvalidFieldInCommand}
-use Rattle.nv_command.specs.declared.status_code.StatusCode.TheVariants.{InvalidNamespaceOrFormat}
-use Rattle.nv_command.specs.declared.status_code.StatusCode.TheVariants.{NamespaceAlreadyAttached, NamespaceIsPrivate}
-use Rattle.nv_command.specs.declared.status_code.StatusCode.TheVariants.{NamespaceNotAttached}
 use Rattle.nv_layout.specs.ErrorEntryBytes.{without_phase}
 use Rattle.nv_layout.proofs.LogLaws.{fits_with_phase}
 use Rattle.nv_layout.specs.declared.id_ctrl.IdCtrl.{IdCtrl}
 use Rattle.nv_layout.specs.declared.smart.Smart.{Smart}
 use Rattle.nv_model.specs.Attachment.{attach_rows, attachment_rows, count_with, detach_rows, fewer, first_rows}
-use Rattle.nv_model.specs.Attachment.{has_one_attached, is_ascending, is_private, lacks_one_attached, more}
+use Rattle.nv_model.specs.Attachment.{has_one_attached, lacks_one_attached, more}
 use Rattle.nv_model.specs.Meaning.{effect_of, refusal_of, rows_of, reply_of}
 use Rattle.nv_model.specs.Format.{in_format}
-use Rattle.nv_model.specs.Conditions.{limit_of, concerned, free_nsid, is_allocated, is_valid, Row, first_refusal, row}
+use Rattle.nv_model.specs.Conditions.{limit_of, concerned, free_nsid, Row, first_refusal}
 use Rattle.nv_model.specs.Logs.{log_reply, errors_of, no_health, smart_of}
 use Rattle.nv_model.specs.Management.{Attached, new_namespace, without, without_all, without_any, without_one}
 use Rattle.nv_model.specs.declared.origin.Origin.{Origin}
@@ -32,8 +28,8 @@ use Rattle.nv_subsystem.proofs.Words.{All-map, answer_by, answer_to, answer_with
 use Rattle.nv_subsystem.proofs.Words.{changed_at_keys, changed_nsids, Controller, controller_at, count_by-map}
 use Rattle.nv_subsystem.proofs.Words.{ErrorEntry, ErrorEntryFits, Feature, feature_of, get_or-map, has_attached}
 use Rattle.nv_subsystem.proofs.Words.{id_ctrl_of, if◌then◌else◌, is_known, is_listed, IsController, IsWellFormed}
-use Rattle.nv_subsystem.proofs.Words.{length-map, list_all, list_any-map, log_entry, map-append, Namespaces, nat_le}
-use Rattle.nv_subsystem.proofs.Words.{nat_lt, newest_tagged, next_count, no_controller, no_entry, option_map_or}
+use Rattle.nv_subsystem.proofs.Words.{length-map, list_any-map, log_entry, map-append, Namespaces, nat_le}
+use Rattle.nv_subsystem.proofs.Words.{newest_tagged, next_count, no_controller, no_entry, option_map_or}
 use Rattle.nv_subsystem.proofs.Words.{pairs_map, Refusal, refused, replicate, Reply, reset, settled, slice_get, State}
 use Rattle.nv_subsystem.proofs.Words.{step, step_by, take-map, untagged, untagged_log, with_booked, with_command}
 use Rattle.nv_subsystem.proofs.Words.{with_controller, with_nsids, with_phase, with_refusal, with_values}
@@ -118,11 +114,7 @@ module _ (s : State) (n : ℕ) (ids : List ℕ) where
 
   -- the rows that an attach and a detach share don't depend on phase tags
   first_same : first_rows (untagged s) n ids ≡ first_rows s n ids
-  first_same = ap (λ (known : ℕ → Bool).
-      row (not (is_valid s n)) InvalidNamespaceOrFormat
-      ∷ row (not (is_allocated s n)) InvalidFieldInCommand
-      ∷ row (not (not (length ids == 0) && is_ascending ids && list_all known ids)) ControllerListInvalid
-      ∷ []) known
+  first_same = cc known
 
   -- whether a listed controller has the namespace attached doesn't depend on phase tags
   one_attached : has_one_attached (untagged s) n ids ≡ has_one_attached s n ids
@@ -138,15 +130,11 @@ module _ (s : State) (n : ℕ) (ids : List ℕ) where
 
   -- the rows of an attach don't depend on phase tags
   attach_same : attach_rows (untagged s) n ids ≡ attach_rows s n ids
-  attach_same = λ i.
-      first_same i
-      ++ row (one_attached i) NamespaceAlreadyAttached
-      ∷ row (is_private s n && nat_lt 1 (counted_with i)) NamespaceIsPrivate
-      ∷ []
+  attach_same = cc (first_same, one_attached, counted_with)
 
   -- the rows of a detach don't depend on phase tags
   detach_same : detach_rows (untagged s) n ids ≡ detach_rows s n ids
-  detach_same = λ i. first_same i ++ row (one_lacking i) NamespaceNotAttached ∷ []
+  detach_same = cc (first_same, one_lacking)
 
   -- the rows of an attach or a detach don't depend on phase tags
   attachment_same : (detach : Bool) → attachment_rows (untagged s) n detach ids ≡ attachment_rows s n detach ids
