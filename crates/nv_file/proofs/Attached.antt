@@ -1,6 +1,6 @@
 -- What the test of the attachments means.
 use Rattle.std.proofs.Common.{◌≡◌, ◌≢◌, ℕ, ◌≤◌, ℤ, pos, Bool, true, false, not, ◌&&◌, ◌||◌, List, [], ◌∷◌, length}
-use Rattle.std.proofs.Common.{get_or, int_eq, nat_le, refl, sym, ◌∙◌, arith}
+use Rattle.std.proofs.Common.{get_or, int_eq, nat_le, sym, ◌∙◌, arith}
 use Rattle.std.proofs.lemmas.Bool.Decides.{Decides-int_eq}
 use Rattle.std.proofs.lemmas.List.Kept.{AllPairs-cons}
 use Rattle.std.proofs.lemmas.List.Sums.{AllPass-from_list_all}
@@ -22,8 +22,7 @@ none_is z zs h k d lt same =
 
 -- if the negation of a truth value is true, it is false
 not_true : (b : Bool) → not b ≡ true → b ≡ false
-not_true true h = absurd (cc h)
-not_true false h = refl
+not_true b h = grind arith
 
 -- numbers that pass the test for repeats differ in pairs
 distinct : (zs : List ℤ) → differ zs ≡ true → AllPairs (λ y z. y ≢ z) zs
@@ -35,8 +34,7 @@ distinct (z ∷ zs) h =
 
 -- a number that is at most 1 unless something is shared is at most 1 if it isn't shared
 one_where_private : (shared : Bool) (n : ℕ) → (shared || nat_le n 1) ≡ true → shared ≡ false → n ≤ 1
-one_where_private true n h private = absurd (cc private)
-one_where_private false n h private = leb-true n 1 h
+one_where_private shared n h private = leb-true n 1 (grind (arith, h, private))
 
 -- a namespace that passes the test of its attachments is attached as IsAttached says
 is_attached : (cs : List ControllerValue) (n : NamespaceValue) → may_attach cs n ≡ true → IsAttached cs n

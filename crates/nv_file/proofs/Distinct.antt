@@ -1,26 +1,15 @@
 -- Keys that differ, as entries are added.
-use Rattle.std.proofs.Common.{◌≡◌, ◌≢◌, ℕ, zero, suc, ◌<◌, Bool, true, false, ◌||◌, ◌==◌, List, [], ◌∷◌, ◌++◌, length}
-use Rattle.std.proofs.Common.{get_or, map, refl, sym, ◌∙◌, arith, eq-eqb}
+use Rattle.std.proofs.Common.{◌≡◌, ◌≢◌, ◌∙◌, ℕ, ◌<◌, false, ◌==◌, List, [], ◌∷◌, ◌++◌, length, get_or, map, sym, eq-eqb}
 use Rattle.std.proofs.lemmas.List.Quantifiers.{all_pairs_push}
 use Rattle.nv_file.specs.KeyChecks.{is_among}
-use Rattle.nv_file.proofs.Words.{AllPairs, controller_entry_view, ControllerEntry, FeatureRule, list_any, list_any-map}
-use Rattle.nv_file.proofs.Words.{map_push, namespace_entry_view, NamespaceEntry}
-
--- if a disjunction is false, both its parts are
-or_false : (a b : Bool) → (a || b) ≡ false → (a ≡ false) × (b ≡ false)
-or_false true b h = absurd (cc h)
-or_false false b h = (refl, h)
+use Rattle.nv_file.proofs.Words.{AllPairs, controller_entry_view, ControllerEntry, false≢true, FeatureRule, list_any}
+use Rattle.nv_file.proofs.Words.{list_any-map, list_any_at, map_push, namespace_entry_view, NamespaceEntry}
 
 -- if no element passes the test for the key n, none has the key n
 none_is : {A : Type 0} (key : A → ℕ) (xs : List A) (n : ℕ) → list_any (λ y. key y == n) xs ≡ false
     → (k : ℕ) (d : A) → k < length xs → key (get_or xs k d) ≢ n
-none_is key [] n h k d lt e = absurd (omega arith)
-none_is key (y ∷ xs) n h zero d lt e =
-    let parts = or_false (key y == n) (list_any (λ x. key x == n) xs) h in
-    let same = eq-eqb (key y) n e in
-    absurd (cc (parts.0, same))
-none_is key (y ∷ xs) n h (suc k) d lt e =
-    none_is key xs n (or_false (key y == n) (list_any (λ x. key x == n) xs) h).1 k d (omega arith) e
+none_is key xs n h k d lt e =
+    false≢true (sym h ∙ list_any_at (λ y. key y == n) xs k d lt (eq-eqb (key (get_or xs k d)) n e))
 
 -- elements with different keys still differ with one more at the end, whose key none of them has
 fresh_last : {A : Type 0} (key : A → ℕ) (xs : List A) (x : A) → AllPairs (λ a b. key a ≢ key b) xs

@@ -1,6 +1,6 @@
 -- The checks of one key with a given value.
 use Rattle.std.proofs.Common.{◌≡◌, ◌∙◌, ℕ, Bool, true, false, ◌&&◌, List, [], length, Option, Some, None, is_some}
-use Rattle.std.proofs.Common.{unwrap_or, nat_le, refl, sym, ap}
+use Rattle.std.proofs.Common.{arith, if◌then◌else◌, unwrap_or, nat_le, refl, sym, ap}
 use Rattle.nv_file.specs.Check.{check, first_error}
 use Rattle.nv_file.specs.KeyChecks.{of_kind, tables, tables_at}
 use Rattle.nv_file.proofs.Words.{as_tables, Data, get_member, in_limits, Key, key_text, Members, Range, SubsystemError}
@@ -21,7 +21,7 @@ unfolding first_error check
 is_not_of_kind o e h = rw h refl
 
 -- if the check for a list passed, the list that was found, or else an empty one, is the list
-pub list_of_kind : {A : Type 0} (o : Option (List A)) (e : SubsystemError) (found : List A)
+list_of_kind : {A : Type 0} (o : Option (List A)) (e : SubsystemError) (found : List A)
     → first_error (check (is_some o) e) ≡ None → found ≡ unwrap_or o [] → o ≡ Some found
 unfolding first_error check
 list_of_kind (Some xs) e found passes is = ap (λ ys. Some ys) (sym is)
@@ -34,24 +34,16 @@ pub is_in_limits : (t : TableName) (k : Key) (b : Bool) → b ≡ true → first
 unfolding first_error check
 is_in_limits t k b h = rw h refl
 
--- a check of limits has the fault Range if they aren't kept
-pub is_out_of_limits : (t : TableName) (k : Key) (b : Bool) → b ≡ false
-    → first_error (in_limits t k b) ≡ Some (Range t k)
-unfolding first_error check
-is_out_of_limits t k b h = rw h refl
-
 -- if a check of limits has no fault, they are kept
 pub was_in_limits : (t : TableName) (k : Key) (b : Bool) → first_error (in_limits t k b) ≡ None → b ≡ true
 unfolding first_error check
-was_in_limits t k true passes = refl
-was_in_limits t k false passes = absurd (cc passes)
+was_in_limits t k b passes = grind arith
 
 -- if a check of limits has a fault, they aren't kept
 pub was_out_of_limits : (t : TableName) (k : Key) (b : Bool) (e : SubsystemError)
     → first_error (in_limits t k b) ≡ Some e → b ≡ false
 unfolding first_error check
-was_out_of_limits t k true e fails = absurd (cc fails)
-was_out_of_limits t k false e fails = refl
+was_out_of_limits t k b e fails = grind arith
 
 -- if a check of limits fails with e, another check of the same key that fails also fails with e
 pub same_fault : (t : TableName) (k : Key) (a b : Bool) (e : SubsystemError)
@@ -62,13 +54,15 @@ same_fault t k a b e fails h =
 -- ---- a key has a list of tables
 
 -- for a key with a list of tables, only their number is left to check, and they are the tables at the key
-pub tables_there : (t : TableName) (k : Key) (most : ℕ) (m : Members) (d : Data) (found : List Members)
-    → get_member (key_text k) m ≡ Some d → as_tables d ≡ Some found
-    → (first_error (tables t k most m)
-    ≡ first_error (in_limits t k (nat_le 1 (length found) && nat_le (length found) most)))
-    × (found ≡ tables_at k m)
+pub tables_there : (t : TableName) (k : Key) (most : ℕ) (m : Members) (d : Data) (e : SubsystemError)
+    (found : List Members) (b : Bool) → get_member (key_text k) m ≡ Some d
+    → first_error (check (is_some (as_tables d)) e) ≡ None → found ≡ unwrap_or (as_tables d) []
+    → (nat_le 1 (length found) && nat_le (length found) most) ≡ b
+    → (first_error (tables t k most m) ≡ (if b then None else Some (Range t k))) × (found ≡ tables_at k m)
 unfolding tables of_kind tables_at first_error check
-tables_there t k most m d found there is = (rw there (rw is refl), rw there (rw is refl))
+tables_there t k most m d e found b there passes are counts =
+    let is = list_of_kind (as_tables d) e found passes are in
+    (rw there (rw is (rw counts refl)), rw there (rw is refl))
 
 -- ---- one of a list is there
 

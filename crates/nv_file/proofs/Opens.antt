@@ -13,55 +13,30 @@ unfoldable pub keys : Unit {0}
 unfolding integer optional_integer text tables of_kind number_at flag_at text_at integers_at tables_at
 keys = tt
 
--- opens the checks and the value of a format
-unfoldable pub format : Unit {0}
-unfolding format_checks format_value
-format = tt
+-- opens the checks and the values of each part of a table
+unfoldable pub part : Unit {0}
+unfolding thresholds thresholds_at counters_checks counters_value numbers_checks numbers_value
+part = tt
 
--- opens the checks and the values of thresholds
-unfoldable pub over_and_under : Unit {0}
-unfolding thresholds thresholds_at
-over_and_under = tt
+-- opens the checks and the values of each table without such parts
+unfoldable pub table : Unit {0}
+unfolding format_checks format_value namespace_checks namespace_value
+table = tt
+
+-- opens the checks and the values of each table with parts, whose own checks and values stay closed
+unfoldable pub whole : Unit {0}
+unfolding feature_checks feature_value smart_checks smart_value identity_checks identity_value
+whole = tt
 
 -- opens the checks and the value of a feature's defaults
 unfoldable pub defaults : Unit {0}
 unfolding defaults_checks defaults_value
 defaults = tt
 
--- opens the checks and the value of a feature
-unfoldable pub feature : Unit {0}
-unfolding feature_checks feature_value
-feature = tt
-
--- opens the checks and the value of a health log's counters
-unfoldable pub counters : Unit {0}
-unfolding counters_checks counters_value
-counters = tt
-
--- opens the checks and the value of a health log
-unfoldable pub smart : Unit {0}
-unfolding smart_checks smart_value
-smart = tt
-
--- opens the checks and the value of the numbers of a controller's identity
-unfoldable pub numbers : Unit {0}
-unfolding numbers_checks numbers_value
-numbers = tt
-
--- opens the checks and the value of a controller's identity
-unfoldable pub identity : Unit {0}
-unfolding identity_checks identity_value
-identity = tt
-
 -- opens the checks and the value of a controller
 unfoldable pub controller : Unit {0}
 unfolding controller_checks controller_value identity_value numbers_value
 controller = tt
-
--- opens the checks and the value of a namespace
-unfoldable pub namespace : Unit {0}
-unfolding namespace_checks namespace_value
-namespace = tt
 
 -- opens the checks and the value of a whole file
 unfoldable pub file : Unit {0}

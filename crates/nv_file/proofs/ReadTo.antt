@@ -49,10 +49,6 @@ module _ {A : Type 0} (number_of : Members → ℕ) (checks : List ℕ → Membe
       ++ each number_of checks (before ts (i + 1)) (tables_view (drop (i + 1) ts))
   at_index ts i t h is = rw (drop_more ts i t h, take_more ts i t h, ← is, map_push, map_push)
 
-  -- before the first table, nothing was read
-  pub read_none : (ts : List Place) → IsReadTo ts 0 []
-  read_none ts = record { rest = refl; are = refl }
-
   -- a table without a fault is read, and its value is added
   pub read_more : (ts : List Place) (i : ℕ) (values : List A) (t : Place) (v : A) → IsReadTo ts i values
       → i < length ts → t ≡ get_or ts i t

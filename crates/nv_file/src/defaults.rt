@@ -37,7 +37,7 @@ fn nine(numbers: &[u16]) -> [u16; 9]
 }
 
 /// Returns the value of a key of Temperature Threshold, or its default if the key is missing.
-#[tactic(auto, using(crate::proofs::CheckLaws::faults), unfolding(crate::proofs::Opens::over_and_under))]
+#[tactic(auto, using(crate::proofs::CheckLaws::faults), unfolding(crate::proofs::Opens::part))]
 fn thresholds_or(
     alloc: Global,
     default: [u16; 9],

@@ -63,7 +63,7 @@ fn may_save(fid: u8, saveable: bool) -> bool
     !(saveable && fid == 0x05)
 }
 
-#[tactic(auto, using(crate::proofs::CheckLaws::faults), unfolding(crate::proofs::Opens::feature))]
+#[tactic(auto, using(crate::proofs::CheckLaws::faults), unfolding(crate::proofs::Opens::whole))]
 fn feature_of(
     alloc: Global,
     version: u8,

@@ -15,7 +15,7 @@ use nv_model::Format;
 use std::alloc::Global;
 use toml::Table;
 
-#[tactic(auto, using(crate::proofs::CheckLaws::faults), unfolding(crate::proofs::Opens::format))]
+#[tactic(auto, using(crate::proofs::CheckLaws::faults), unfolding(crate::proofs::Opens::table))]
 fn format_of(table: &Table) -> Result<Format, SubsystemError>
     ensures exact { IsChecked (λ f. f) (format_checks (table_view table.now))
         (format_value (table_view table.now)) result }

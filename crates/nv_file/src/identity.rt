@@ -17,7 +17,7 @@ use nv_model::{Identity, IdentityNumbers};
 use std::alloc::Global;
 use toml::Table;
 
-#[tactic(auto, using(crate::proofs::CheckLaws::faults), unfolding(crate::proofs::Opens::numbers))]
+#[tactic(auto, using(crate::proofs::CheckLaws::faults), unfolding(crate::proofs::Opens::part))]
 fn identity_numbers_of(table: &Table) -> Result<IdentityNumbers, SubsystemError>
     ensures exact { IsChecked (λ n. n) (numbers_checks (table_view table.now))
         (numbers_value (table_view table.now)) result }
@@ -58,7 +58,7 @@ fn has_cntlid(controllers: &[ControllerEntry], cntlid: u16) -> bool
 }
 
 /// Reads what a controller says about itself. `before` has the controllers before it.
-#[tactic(auto, using(crate::proofs::CheckLaws::faults), unfolding(crate::proofs::Opens::identity))]
+#[tactic(auto, using(crate::proofs::CheckLaws::faults), unfolding(crate::proofs::Opens::whole))]
 pub(crate) fn identity_of(
     alloc: Global,
     before: &[ControllerEntry],

@@ -79,7 +79,7 @@ fn may_extend(mc: u8, format: &Format, extended: bool) -> bool
     !extended || (format.ms > 0 && mc & 1 == 1)
 }
 
-#[tactic(auto, using(crate::proofs::CheckLaws::faults), unfolding(crate::proofs::Opens::namespace))]
+#[tactic(auto, using(crate::proofs::CheckLaws::faults), unfolding(crate::proofs::Opens::table))]
 fn namespace_entry_of(
     alloc: Global,
     nn: u32,

@@ -17,7 +17,7 @@ use nv_model::{Counters, GREATEST_INTEGER, SmartBase};
 use std::alloc::Global;
 use toml::Table;
 
-#[tactic(auto, using(crate::proofs::CheckLaws::faults), unfolding(crate::proofs::Opens::counters))]
+#[tactic(auto, using(crate::proofs::CheckLaws::faults), unfolding(crate::proofs::Opens::part))]
 fn counters_of(table: &Table) -> Result<Counters, SubsystemError>
     ensures exact { IsChecked (λ c. c) (counters_checks (table_view table.now))
         (counters_value (table_view table.now)) result }
@@ -72,7 +72,7 @@ fn eight(numbers: &[u16]) -> [u16; 8]
     ]
 }
 
-#[tactic(auto, using(crate::proofs::CheckLaws::faults), unfolding(crate::proofs::Opens::smart))]
+#[tactic(auto, using(crate::proofs::CheckLaws::faults), unfolding(crate::proofs::Opens::whole))]
 fn smart_of(alloc: Global, table: &Table) -> Result<SmartBase, SubsystemError>
     ensures exact { IsCheckedUnlessMemory (λ s. s) (smart_checks (table_view table.now))
         (smart_value (table_view table.now)) result }

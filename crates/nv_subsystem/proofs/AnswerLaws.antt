@@ -1,11 +1,8 @@
 -- What an answer, and what is told of it, say of the refusal and the reply.
-use Rattle.std.proofs.Common.{◌≡◌, ℕ, false, not, Option, Some, None, Ok, Err, is_some, refl}
+use Rattle.std.proofs.Common.{◌≡◌, ℕ, Option, Some, None, Ok, Err, refl}
 use Rattle.nv_command.specs.Reply.{dword0_of}
-use Rattle.nv_layout.specs.declared.new_namespace.NewNamespace.{NewNamespace}
-use Rattle.nv_model.specs.Conditions.{first_refusal, free_nsid}
-use Rattle.nv_model.specs.Management.{create_rows, created_nsid}
 use Rattle.nv_subsystem.specs.Answer.{dword0_in}
-use Rattle.nv_subsystem.proofs.Words.{answer_by, none_holds, Refusal, Reply, State, unwrap_or}
+use Rattle.nv_subsystem.proofs.Words.{answer_by, Refusal, Reply}
 
 -- a command that is answered by a reply isn't refused
 pub accepted_answer : (o : Option Refusal) (r x : Reply) → answer_by o r ≡ Ok x → (o ≡ None) × (r ≡ x)
@@ -28,12 +25,3 @@ pub refused_told : (o : Option Refusal) (r : Reply) (x : Refusal) → dword0_in 
     → o ≡ Some x
 refused_told None r x e = absurd (cc e)
 refused_told (Some y) r x e = cc
-
--- a create that isn't refused finds a free NSID, which it returns
-pub created_free : (s : State) (w : NewNamespace) → first_refusal (create_rows s w) ≡ None
-    → free_nsid s ≡ Some (created_nsid s)
-created_free s w accepted = by (free_nsid s) (none_holds (create_rows s w) accepted).1.1.1.1.1.1.0
-  where
-    by : (o : Option ℕ) → not (is_some o) ≡ false → o ≡ Some (unwrap_or o 0)
-    by None h = absurd (cc h)
-    by (Some n) h = refl

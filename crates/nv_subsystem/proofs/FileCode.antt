@@ -1,49 +1,42 @@
 -- The parts of the subsystem that are made from a file.
-use Rattle.std.proofs.Common.{◌≡◌, ◌∙◌, ℕ, ◌+◌, ◌<◌, ◌≤◌, List, [], ◌∷◌, refl, map, length, get_or, Some, sym, ap}
-use Rattle.std.proofs.Common.{subst, arith}
+use Rattle.std.proofs.Common.{◌≡◌, ◌∙◌, ℕ, ◌+◌, ◌<◌, ◌≤◌, List, map, length, get_or, Some, sym, ap, subst, arith}
 use Rattle.std.specs.FinMap as map_of
 use Rattle.nv_subsystem.specs.declared.controller.Controller.{Controller}
 use Rattle.nv_file.specs.declared.file.File.{File}
 use Rattle.nv_file.specs.declared.namespace.NamespaceEntry.{NamespaceEntry}
+use Rattle.nv_file.proofs.Fused.{capacities}
 use Rattle.nv_model.proofs.InFormatLaws.{format_below}
 use Rattle.nv_layout.specs.Limits.{most_nsids}
 use Rattle.nv_subsystem.proofs.Words.{All, All-weaker, controller_entry_view, controller_of, controller_view, file_view}
-use Rattle.nv_subsystem.proofs.Words.{get-empty, get_or-map, IsFeatureRule, IsFile, IsFormat, IsOf, IsSized, IsSound}
-use Rattle.nv_subsystem.proofs.Words.{length-map, Namespace, namespace_entry_view, nat_cmp, RangeMap, state_of, sum_by}
-use Rattle.nv_subsystem.proofs.Words.{sum_by-cons, used, used-empty}
+use Rattle.nv_subsystem.proofs.Words.{get-empty, get_or-map, IsControllerEntry, IsFeatureRule, IsFile, IsFormat}
+use Rattle.nv_subsystem.proofs.Words.{IsNamespaceEntry, IsOf, IsSized, IsSound, length-map, Namespace}
+use Rattle.nv_subsystem.proofs.Words.{namespace_entry_view, nat_cmp, RangeMap, state_of, sum_by, used, used-empty}
 use Rattle.nv_subsystem.proofs.Capacities.{used-all}
 use Rattle.nv_subsystem.proofs.FileStates.{state_ok}
+
+-- what holds of the value of each element holds of each element, by its value
+of_each : {X Y : Type 0} (view : X → Y) (P : Y → Type 0) (xs : List X) → All P (map view xs) → All (λ x. P (view x)) xs
+of_each view P xs all k d b =
+    subst P (get_or-map view xs k d (view d) b) (all k (view d) (omega (arith, length-map xs view)))
 
 -- the NSIDs of a file's namespaces are from 1 to NN
 pub nsids_within : (f : File) → IsFile (file_view f) → (k : ℕ) (d : NamespaceEntry)
     → k < length f.namespaces.items → IsOf 1 f.nn (get_or f.namespaces.items k d).nsid
 nsids_within f h k d b =
-    let ns = f.namespaces.items in
-    let at = get_or-map namespace_entry_view ns k d (namespace_entry_view d) b in
-    let is = h.namespaces k (namespace_entry_view d)
-    (omega (arith, length-map ns namespace_entry_view)) in
-    let within = subst (λ n. (1 ≤ n.nsid) × (n.nsid ≤ f.nn)) at is.nsid in
+    let valid = IsNamespaceEntry f.nn f.mc f.formats.items in
+    let within = (of_each namespace_entry_view valid f.namespaces.items h.namespaces k d b).nsid in
     (within.0, omega (arith, within.1))
 
 -- the rules of a file's features are in range
 pub rules_within : (f : File) → IsFile (file_view f)
     → All (λ e. All IsFeatureRule e.rules.items) f.controllers.items
-rules_within f h k d b =
-    let cs = f.controllers.items in
-    let at = get_or-map controller_entry_view cs k d (controller_entry_view d) b in
-    let is = h.controllers k (controller_entry_view d)
-    (omega (arith, length-map cs controller_entry_view)) in
-    subst (λ c. All IsFeatureRule c.rules) at is.rules
+rules_within f h k d b = (of_each controller_entry_view IsControllerEntry f.controllers.items h.controllers k d b).rules
 
 -- MDTS of each controller of a file is at most 8
 pub mdts_within : (f : File) → IsFile (file_view f)
     → All (λ e. e.identity.numbers.mdts ≤ 8) f.controllers.items
 mdts_within f h k d b =
-    let cs = f.controllers.items in
-    let at = get_or-map controller_entry_view cs k d (controller_entry_view d) b in
-    let is = h.controllers k (controller_entry_view d)
-    (omega (arith, length-map cs controller_entry_view)) in
-    subst (λ c. c.identity.numbers.mdts ≤ 8) at is.identity.numbers.mdts.1
+    (of_each controller_entry_view IsControllerEntry f.controllers.items h.controllers k d b).identity.numbers.mdts.1
 
 -- the slots, formats and controllers that are made from a file are sound
 pub is_sound : (f : File) (slots : RangeMap Namespace) (cs : List Controller) → IsFile (file_view f)
@@ -70,22 +63,10 @@ is_sound f slots cs h is views sized =
       controllers = subst (λ (m : RangeMap Namespace). All (IsSized m.count) cs) (sym is) sized;
     }
 
--- the sum of the capacities is the same for namespaces in the code and for their values
-sum_of_views : (ns : List NamespaceEntry)
-    → sum_by (λ n. n.namespace.capacity) (map namespace_entry_view ns)
-    ≡ sum_by (λ n. n.namespace.capacity) ns
-sum_of_views [] = refl
-sum_of_views (n ∷ ns) = omega (
-  arith,
-  sum_of_views ns,
-  sum_by-cons (λ n. n.namespace.capacity) n ns,
-  sum_by-cons (λ n. n.namespace.capacity) (namespace_entry_view n) (map namespace_entry_view ns),
-)
-
 -- the namespaces of a file have no more capacity than there is
 pub within_capacity : (f : File) → IsFile (file_view f)
     → sum_by (λ n. n.namespace.capacity) f.namespaces.items ≤ f.tnvmcap
-within_capacity f h = omega (arith, h.capacities, sum_of_views f.namespaces.items)
+within_capacity f h = omega (arith, h.capacities, capacities f.namespaces.items)
 
 -- what the namespaces of a file leave of the capacity is the unallocated capacity
 pub adds_up : (f : File) (left : ℕ) → IsFile (file_view f)
@@ -95,7 +76,7 @@ adds_up f left h e =
     omega (
       arith,
       e,
-      sum_of_views f.namespaces.items,
+      capacities f.namespaces.items,
       used-empty,
       used-all map_of.empty (file_view f).namespaces h.nsids
           (λ k d b. get-empty nat_cmp (get_or (file_view f).namespaces k d).nsid),

@@ -1,11 +1,11 @@
 -- The rules and the values of features in a file.
 use Rattle.std.proofs.Common.{◌≡◌, ◌∙◌, ℕ, zero, suc, ◌==◌, ◌&&◌, ◌||◌, Bool, true, false, not, cond, List, [], ◌∷◌}
-use Rattle.std.proofs.Common.{Some, is_some, refl, sym, ap, subst, arith}
+use Rattle.std.proofs.Common.{eqb-true, Some, is_some, refl, sym, ap, subst, arith}
 use Rattle.std.specs.FinMap as map_of
 use Rattle.nv_model.specs.declared.feature_rule.FeatureRule.{FeatureRule}
 use Rattle.nv_model.proofs.FeatureLaws.{AreSound, first_is_sound, has_inserted, sound-insert, values-with}
 use Rattle.nv_model.proofs.ValueLaws.{by_numbers, is_key}
-use Rattle.nv_subsystem.proofs.Words.{All, AreRules, AreValues, both_ways, changed, defaults_of, Feature, feature_at}
+use Rattle.nv_subsystem.proofs.Words.{All, AreRules, AreValues, changed, defaults_of, Feature, feature_at}
 use Rattle.nv_subsystem.proofs.Words.{feature_of, FeatureRules, features, FeatureValues, fill, find, first_value, fold}
 use Rattle.nv_subsystem.proofs.Words.{get-empty, get_of_insert, if◌then◌else◌, is_attached_to, is_selector}
 use Rattle.nv_subsystem.proofs.Words.{is_supported, IsFeatureRule, key_cmp, key_of, list_any, map, NamespaceValue}
@@ -20,8 +20,8 @@ one_rule m r are is fid q e = at_test (fid == r.fid) refl (sym (get_of_insert m 
   where
     at_test : (b : Bool) → (fid == r.fid) ≡ b → cond b (Some r) (map_of.get m fid) ≡ Some q
         → IsFeatureRule q × (q.fid ≡ fid)
-    at_test true h e = let same : r ≡ q = cc e in let here : r.fid ≡ fid = grind (arith, nat_tests) in
-        subst (λ t. IsFeatureRule t × (t.fid ≡ fid)) same (is, here)
+    at_test true h e = let same : r ≡ q = cc e in
+        subst (λ t. IsFeatureRule t × (t.fid ≡ fid)) same (is, sym (eqb-true fid r.fid h))
     at_test false h e = are fid q e
 
 -- rules with several more valid rules are rules
@@ -126,18 +126,12 @@ module _ (rules : FeatureRules) (vwc : ℕ) where
   some_key a b n [] = grind arith
   some_key a b n (s ∷ ss) = grind (arith, nat_tests, some_key a b n ss)
 
-  -- two tests that agree on each element agree on whether one of a list passes
-  any_alike : {A : Type 0} (p r : A → Bool) → ((x : A) → p x ≡ r x) → (xs : List A)
-      → list_any p xs ≡ list_any r xs
-  any_alike p r same [] = refl
-  any_alike p r same (x ∷ xs) = λ i. same x i || any_alike p r same xs i
-
   -- a key is a default of a feature if and only if it has the feature's identifier and a value at the start
   is_of : (q : ValueKey) (f : Feature)
       → is_default rules vwc q f ≡ (((row_of f).fid == q.fid) && at_start q f)
   is_of q f =
       ap (λ b. has_default rules vwc f && b)
-      (any_alike _ _ (λ s. by_numbers q (key_of f 0 s)) (row_of f).selectors
+      ((λ i. list_any (λ s. by_numbers q (key_of f 0 s) i) (row_of f).selectors)
       ∙ some_key (q.fid == (row_of f).fid) (q.nsid == (if (row_of f).per_namespace then 0 else 0))
       q.selector (row_of f).selectors
       ∙ λ i. turned q.fid (row_of f).fid i && ((q.nsid == no_nsid (row_of f).per_namespace i)
@@ -149,26 +143,16 @@ module _ (rules : FeatureRules) (vwc : ℕ) where
       zero_nsid = 0
 
       no_nsid : (b : Bool) → (if b then zero_nsid else zero_nsid) ≡ zero_nsid
-      no_nsid true = refl
-      no_nsid false = refl
-
-      nowhere : map_of.contains_key no_nsids q.nsid ≡ false
-      nowhere = ap is_some (get-empty nat_cmp q.nsid)
+      no_nsid b = grind arith
 
       by_kind : (s p a h z : Bool) → ((s && not p) && (a && (z && h)))
-          ≡ (a && (s && (h && (if p
-          then map_of.contains_key no_nsids q.nsid else z))))
-      by_kind s true a h z = grind (arith, nowhere)
-      by_kind s false a h z = grind arith
+          ≡ (a && (s && (h && (if p then map_of.contains_key no_nsids q.nsid else z))))
+      by_kind s p a h z = grind (arith, ap is_some (get-empty {X = Unit {0}} nat_cmp q.nsid))
 
   -- features with the same identifier are the same
   same_feature : (f g : Feature) → (row_of f).fid ≡ (row_of g).fid → f ≡ g
   same_feature f g e =
       let both : Some f ≡ Some g = sym (feature_at f) ∙ ap feature_of e ∙ feature_at g in cc both
-
-  -- if the test of equality is true, the numbers are equal
-  is_same : (a b : ℕ) → (a == b) ≡ true → a ≡ b
-  is_same a b e = grind (arith, nat_tests)
 
   -- if a feature with an identifier passes a test, so does each feature with that identifier
   rest_alike : (a : ℕ) (p : Feature → Bool) (f : Feature) → (row_of f).fid ≡ a → (fs : List Feature)
@@ -181,7 +165,7 @@ module _ (rules : FeatureRules) (vwc : ℕ) where
           → ((b && c) || list_any (λ g. ((row_of g).fid == a) && p g) fs) ≡ true
           → (list_any (λ g. ((row_of g).fid == a) && p g) fs ≡ true → p f ≡ true) → p f ≡ true
       at_test true true e is any later =
-          ap p (same_feature f g (here ∙ sym (is_same (row_of g).fid a e))) ∙ is
+          ap p (same_feature f g (here ∙ sym (eqb-true (row_of g).fid a e))) ∙ is
       at_test true false e is any later = later any
       at_test false c e is any later = later any
 
@@ -198,14 +182,7 @@ module _ (rules : FeatureRules) (vwc : ℕ) where
           → ((b && p f) || list_any (λ f. ((row_of f).fid == a) && p f) fs)
           ≡ option_map_or p (if b then Some f else find (λ f. (row_of f).fid == a) fs) false
       at_test true e later =
-          both_ways _ (p f) (only (p f) refl) (λ is. ap (λ b. b || list_any
-          (λ f. ((row_of f).fid == a) && p f) fs) is)
-        where
-          only : (b : Bool) → p f ≡ b
-              → (b || list_any (λ f. ((row_of f).fid == a) && p f) fs) ≡ true → b ≡ true
-          only true is any = refl
-          only false is any =
-              sym is ∙ rest_alike a p f (is_same (row_of f).fid a e) fs any
+          let rest = rest_alike a p f (eqb-true (row_of f).fid a e) fs in grind (arith, rest)
       at_test false e later = later
 
   -- no values
@@ -223,7 +200,7 @@ module _ (rules : FeatureRules) (vwc : ℕ) where
     keys = λ q. some_defaults map_of.empty features q
         ∙ or_nothing (list_any (is_default rules vwc q) features) (map_of.contains_key nothing q)
         (ap is_some (get-empty key_cmp q))
-        ∙ any_alike (is_default rules vwc q) _ (is_of q) features
+        ∙ (λ i. list_any (λ f. is_of q f i) features)
         ∙ by_first q.fid (at_start q) features;
     sound = sound_defaults are map_of.empty features
         (λ k x e. absurd (cc (sym (get-empty key_cmp k) ∙ e)));

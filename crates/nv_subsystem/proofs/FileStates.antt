@@ -1,12 +1,13 @@
 -- The subsystem of a file is well formed.
 use Rattle.std.proofs.Common.{◌≡◌, ◌≢◌, ◌∙◌, ℕ, zero, suc, ◌≤◌, ◌==◌, ◌||◌, ℤ, pos, Bool, true, false, cond, List, []}
-use Rattle.std.proofs.Common.{◌∷◌, length, get_or, Option, Some, None, is_some, refl, sym, ap, subst, arith, int_eq}
+use Rattle.std.proofs.Common.{◌∷◌, length, get_or, Option, Some, None, is_some, eqb-true, refl, sym, ap, subst, arith}
+use Rattle.std.proofs.Common.{int_eq}
 use Rattle.std.specs.FinMap as map_of
 use Rattle.nv_subsystem.proofs.Words.{All, All-map, All-weaker, AllPairs, controller_of, ControllerValue, count_by}
-use Rattle.nv_subsystem.proofs.Words.{Decides-int_eq, FileValue, fold, get-empty, get_of_insert, if◌then◌else◌}
+use Rattle.nv_subsystem.proofs.Words.{Decides-int_eq, FileValue, fold, get-empty, get_of_insert}
 use Rattle.nv_subsystem.proofs.Words.{is_attached_to, IsAttached, IsController, IsControllerEntry, IsFile, IsNamespace}
 use Rattle.nv_subsystem.proofs.Words.{IsNamespaceEntry, IsWellFormed, length-map, list_any, Namespace, Namespaces}
-use Rattle.nv_subsystem.proofs.Words.{NamespaceValue, nat_cmp, nat_tests, ne_eqb, none_pass, Nsids, pairs_map, rules_of}
+use Rattle.nv_subsystem.proofs.Words.{NamespaceValue, nat_cmp, ne_eqb, none_pass, Nsids, pairs_map, rules_of}
 use Rattle.nv_subsystem.proofs.Words.{state_of, sum_by-cons, untrue, used-empty, with_attachment, with_namespace}
 use Rattle.nv_subsystem.proofs.FileFeatures.{are_rules, attached_values, start_values}
 use Rattle.nv_subsystem.proofs.Capacities.{used-all}
@@ -30,10 +31,6 @@ abbrev says : (NamespaceValue → Bool) → Option NamespaceValue → Bool
 says p None = false
 says p (Some e) = p e
 
--- if the test of equality is true, the numbers are equal
-is_nsid : (q n : ℕ) → (q == n) ≡ true → q ≡ n
-is_nsid q n h = grind (arith, nat_tests)
-
 -- an NSID that no namespace of the file has is found nowhere
 absent : (ns : List NamespaceValue) (q : ℕ) → All (λ n. q ≢ n.nsid) ns → entry_at ns q ≡ None
 unfolding entry_at
@@ -50,15 +47,13 @@ alone : (n : NamespaceValue) (ns : List NamespaceValue) (q : ℕ) → Distinct (
     → (q == n.nsid) ≡ true → entry_at ns q ≡ None
 unfolding Distinct
 alone n ns q h e = absent ns q (λ k d b. subst (λ m. m ≢ (get_or ns k d).nsid)
-    (sym (is_nsid q n.nsid e)) (h zero (suc k) d (omega arith) (omega arith)))
+    (sym (eqb-true q n.nsid e)) (h zero (suc k) d (omega arith) (omega arith)))
 
 -- adding the first namespace to the map, and then the others, finds what looking through all of them finds
-found_at : (m : Namespaces) (n : NamespaceValue) (ns : List NamespaceValue) (q : ℕ) (t : Bool)
-    → (q == n.nsid) ≡ t → Distinct (n ∷ ns)
-    → or_else (entry_at ns q) (cond t (Some n.namespace) (map_of.get m q)) ≡ or_else
-    (cond t (Some n) (entry_at ns q)) (map_of.get m q)
-found_at m n ns q true e d = ap (λ o. or_else o (Some n.namespace)) (alone n ns q d e)
-found_at m n ns q false e d = refl
+found_at : (m : Namespaces) (n : NamespaceValue) (ns : List NamespaceValue) (q : ℕ) → Distinct (n ∷ ns)
+    → or_else (entry_at ns q) (map_of.get (with_namespace m n) q)
+    ≡ or_else (cond (q == n.nsid) (Some n) (entry_at ns q)) (map_of.get m q)
+found_at m n ns q d = grind (arith, get_of_insert m n.nsid n.namespace q, alone n ns q d)
 
 -- the map has for an NSID the namespace of the file with it, or else what it had
 found : (m : Namespaces) (ns : List NamespaceValue) (q : ℕ) → Distinct ns
@@ -67,29 +62,13 @@ unfolding entry_at
 found m [] q d = refl
 found m (n ∷ ns) q d =
     found (with_namespace m n) ns q (later n ns d)
-    ∙ ap (or_else (entry_at ns q)) (get_of_insert m n.nsid n.namespace q)
-    ∙ found_at m n ns q (q == n.nsid) refl d
-
--- after one namespace, a controller has its NSID if its list names it, and the NSIDs that it had
-marked_one : (m : Nsids) (n : NamespaceValue) (cntlid q : ℕ) (t : Bool)
-    → is_attached_to cntlid n ≡ t → is_some (map_of.get (if t then map_of.insert m n.nsid tt else m)
-    q) ≡ (cond (q == n.nsid) t false || is_some (map_of.get m q))
-marked_one m n cntlid q true e = ap is_some (get_of_insert m n.nsid tt q)
-    ∙ (elim (q == n.nsid) as (λ b. is_some (cond b (Some tt) (map_of.get m q)) ≡
-    (cond b true false || is_some (map_of.get m q))) [ true ↦ refl | false ↦ refl ])
-marked_one m n cntlid q false e = elim (q == n.nsid)
-    as (λ b. is_some (map_of.get m q) ≡ (cond b false false || is_some (map_of.get m q)))
-    [ true ↦ refl | false ↦ refl ]
+    ∙ found_at m n ns q d
 
 -- the first namespace and the later ones attach an NSID to a controller if the one with the NSID does
-marked_at : (n : NamespaceValue) (ns : List NamespaceValue) (cntlid q : ℕ) (held t : Bool)
-    → (q == n.nsid) ≡ t → Distinct (n ∷ ns)
-    → (says (is_attached_to cntlid) (entry_at ns q) ||
-    (cond t (is_attached_to cntlid n) false || held)) ≡
-    (says (is_attached_to cntlid) (cond t (Some n) (entry_at ns q)) || held)
-marked_at n ns cntlid q held true e d = ap (λ o.
-    says (is_attached_to cntlid) o || (is_attached_to cntlid n || held)) (alone n ns q d e)
-marked_at n ns cntlid q held false e d = refl
+marked_at : (m : Nsids) (n : NamespaceValue) (ns : List NamespaceValue) (cntlid q : ℕ) → Distinct (n ∷ ns)
+    → (says (is_attached_to cntlid) (entry_at ns q) || map_of.contains_key (with_attachment cntlid m n) q)
+    ≡ (says (is_attached_to cntlid) (cond (q == n.nsid) (Some n) (entry_at ns q)) || map_of.contains_key m q)
+marked_at m n ns cntlid q d = grind (arith, get_of_insert m n.nsid tt q, alone n ns q d)
 
 -- a controller has an NSID attached if the namespace of the file with it says so, or if it had it
 marked : (m : Nsids) (ns : List NamespaceValue) (cntlid q : ℕ) → Distinct ns
@@ -98,10 +77,7 @@ marked : (m : Nsids) (ns : List NamespaceValue) (cntlid q : ℕ) → Distinct ns
 unfolding entry_at
 marked m [] cntlid q d = refl
 marked m (n ∷ ns) cntlid q d =
-    marked (with_attachment cntlid m n) ns cntlid q (later n ns d)
-    ∙ ap (λ b. says (is_attached_to cntlid) (entry_at ns q) || b)
-    (marked_one m n cntlid q (is_attached_to cntlid n) refl)
-    ∙ marked_at n ns cntlid q (is_some (map_of.get m q)) (q == n.nsid) refl d
+    marked (with_attachment cntlid m n) ns cntlid q (later n ns d) ∙ marked_at m n ns cntlid q d
 
 -- what holds for each namespace of the file holds for the one with an NSID, whose NSID it is
 at_nsid : (P : NamespaceValue → Type 0) (ns : List NamespaceValue) (q : ℕ) (e : NamespaceValue)
@@ -114,7 +90,7 @@ at_nsid P (n ∷ ns) q e all is = at_test (q == n.nsid) refl is (at_nsid P ns q 
         (cond t (Some n) (entry_at ns q)) (Some e) → (entry_at ns q ≡ Some e → P e × (e.nsid ≡ q))
         → P e × (e.nsid ≡ q)
     at_test true h w rest = let same : n ≡ e = cc w
-        in subst (λ x. P x × (x.nsid ≡ q)) same (all zero n (omega arith), sym (is_nsid q n.nsid h))
+        in subst (λ x. P x × (x.nsid ≡ q)) same (all zero n (omega arith), sym (eqb-true q n.nsid h))
     at_test false h w rest = rest w
 
 -- an attachment list of at most one number names at most one controller

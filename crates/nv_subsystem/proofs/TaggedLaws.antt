@@ -10,30 +10,25 @@ use Rattle.nv_command.specs.declared.log_page.LogPage.TheVariants.{ErrorInformat
 use Rattle.nv_command.specs.Logs.{without_phases}
 use Rattle.nv_command.specs.Nsid.{broadcast_nsid}
 use Rattle.nv_command.specs.declared.command.Command.{Command}
-use Rattle.nv_command.specs.declared.command.Command.TheVariants.{IdentifyController, Create, Delete, Attachment}
-use Rattle.nv_command.specs.declared.command.Command.TheVariants.{Format, SetFeature, GetLog}
-use Rattle.nv_command.specs.declared.status_code.StatusCode.TheVariants.{ControllerListInvalid, InvalidFieldInCommand}
-use Rattle.nv_command.specs.declared.status_code.StatusCode.TheVariants.{InvalidNamespaceOrFormat}
-use Rattle.nv_command.specs.declared.status_code.StatusCode.TheVariants.{NamespaceAlreadyAttached, NamespaceIsPrivate}
-use Rattle.nv_command.specs.declared.status_code.StatusCode.TheVariants.{NamespaceNotAttached}
+use Rattle.nv_command.specs.declared.command.Command.TheVariants as command
 use Rattle.nv_layout.specs.ErrorEntryBytes.{without_phase}
 use Rattle.nv_layout.proofs.LogLaws.{fits_with_phase}
 use Rattle.nv_layout.specs.declared.id_ctrl.IdCtrl.{IdCtrl}
 use Rattle.nv_layout.specs.declared.smart.Smart.{Smart}
 use Rattle.nv_model.specs.Attachment.{attach_rows, attachment_rows, count_with, detach_rows, fewer, first_rows}
-use Rattle.nv_model.specs.Attachment.{has_one_attached, is_ascending, is_private, lacks_one_attached, more}
+use Rattle.nv_model.specs.Attachment.{has_one_attached, lacks_one_attached, more}
 use Rattle.nv_model.specs.Meaning.{effect_of, refusal_of, rows_of, reply_of}
 use Rattle.nv_model.specs.Format.{in_format}
-use Rattle.nv_model.specs.Conditions.{limit_of, concerned, free_nsid, is_allocated, is_valid, Row, first_refusal, row}
+use Rattle.nv_model.specs.Conditions.{limit_of, concerned, free_nsid, Row, first_refusal}
 use Rattle.nv_model.specs.Logs.{log_reply, errors_of, no_health, smart_of}
 use Rattle.nv_model.specs.Management.{Attached, new_namespace, without, without_all, without_any, without_one}
 use Rattle.nv_model.specs.declared.origin.Origin.{Origin}
 use Rattle.nv_subsystem.proofs.Words.{All-map, answer_by, answer_to, answer_without_phases, booked, changed_at}
-use Rattle.nv_subsystem.proofs.Words.{changed_at_keys, changed_nsids, Controller, controller_at, count_by-map}
+use Rattle.nv_subsystem.proofs.Words.{changed_at_keys, changed_nsids, Controller, controller_at, count_by, count_by-map}
 use Rattle.nv_subsystem.proofs.Words.{ErrorEntry, ErrorEntryFits, Feature, feature_of, get_or-map, has_attached}
 use Rattle.nv_subsystem.proofs.Words.{id_ctrl_of, if◌then◌else◌, is_known, is_listed, IsController, IsWellFormed}
-use Rattle.nv_subsystem.proofs.Words.{length-map, list_all, list_any-map, log_entry, map-append, Namespaces, nat_le}
-use Rattle.nv_subsystem.proofs.Words.{nat_lt, newest_tagged, next_count, no_controller, no_entry, option_map_or}
+use Rattle.nv_subsystem.proofs.Words.{length-map, list_any-map, log_entry, map-append, Namespaces, nat_le}
+use Rattle.nv_subsystem.proofs.Words.{newest_tagged, next_count, no_controller, no_entry, option_map_or}
 use Rattle.nv_subsystem.proofs.Words.{pairs_map, Refusal, refused, replicate, Reply, reset, settled, slice_get, State}
 use Rattle.nv_subsystem.proofs.Words.{step, step_by, take-map, untagged, untagged_log, with_booked, with_command}
 use Rattle.nv_subsystem.proofs.Words.{with_controller, with_nsids, with_phase, with_refusal, with_values}
@@ -118,11 +113,7 @@ module _ (s : State) (n : ℕ) (ids : List ℕ) where
 
   -- the rows that an attach and a detach share don't depend on phase tags
   first_same : first_rows (untagged s) n ids ≡ first_rows s n ids
-  first_same = ap (λ (known : ℕ → Bool).
-      row (not (is_valid s n)) InvalidNamespaceOrFormat
-      ∷ row (not (is_allocated s n)) InvalidFieldInCommand
-      ∷ row (not (not (length ids == 0) && is_ascending ids && list_all known ids)) ControllerListInvalid
-      ∷ []) known
+  first_same = cc known
 
   -- whether a listed controller has the namespace attached doesn't depend on phase tags
   one_attached : has_one_attached (untagged s) n ids ≡ has_one_attached s n ids
@@ -138,15 +129,11 @@ module _ (s : State) (n : ℕ) (ids : List ℕ) where
 
   -- the rows of an attach don't depend on phase tags
   attach_same : attach_rows (untagged s) n ids ≡ attach_rows s n ids
-  attach_same = λ i.
-      first_same i
-      ++ row (one_attached i) NamespaceAlreadyAttached
-      ∷ row (is_private s n && nat_lt 1 (counted_with i)) NamespaceIsPrivate
-      ∷ []
+  attach_same = cc (first_same, one_attached, counted_with)
 
   -- the rows of a detach don't depend on phase tags
   detach_same : detach_rows (untagged s) n ids ≡ detach_rows s n ids
-  detach_same = λ i. first_same i ++ row (one_lacking i) NamespaceNotAttached ∷ []
+  detach_same = cc (first_same, one_lacking)
 
   -- the rows of an attach or a detach don't depend on phase tags
   attachment_same : (detach : Bool) → attachment_rows (untagged s) n detach ids ≡ attachment_rows s n detach ids
@@ -160,7 +147,7 @@ module _ (s : State) (c : ℕ) where
 
   -- the rows of a command don't depend on phase tags
   rows_untagged : (k : Command) → rows_of (untagged s) c k ≡ rows_of s c k
-  rows_untagged (Attachment n detach ids) = attachment_same s n ids detach
+  rows_untagged (command.Attachment n detach ids) = attachment_same s n ids detach
   rows_untagged k = read_untagged (rows_in k) (λ x xs ys. refl) (λ x xs c. refl) s.controllers c
 
   -- the refusal of a command doesn't depend on phase tags
@@ -210,8 +197,8 @@ module _ (s : State) (c : ℕ) where
 
   -- the reply to a command without phase tags is the reply of the state without phase tags
   pub reply_untagged : (k : Command) → without_phases (reply_of s c k) ≡ reply_of (untagged s) c k
-  reply_untagged IdentifyController = ap reply.Controller (sym controller_told)
-  reply_untagged (GetLog q) =
+  reply_untagged command.IdentifyController = ap reply.Controller (sym controller_told)
+  reply_untagged (command.GetLog q) =
       log_untagged (log_asked q.lid)
   reply_untagged k = sym (read_untagged (reply_in k) (λ x xs ys. refl) (λ x xs c. refl) s.controllers c)
 
@@ -265,18 +252,18 @@ module _ (s : State) (c : ℕ) where
 
   -- the effect of a command without phase tags is its effect on the state without phase tags
   pub effect_untagged : (k : Command) → untagged (effect_of s c k) ≡ effect_of (untagged s) c k
-  effect_untagged (Create w) = mapped_untagged _
+  effect_untagged (command.Create w) = mapped_untagged _
       (λ n. record (untagged s) { namespaces = map_of.insert s.namespaces n (new_namespace s w) })
       s (λ n. refl) (free_nsid s)
-  effect_untagged (Delete n) = chosen_untagged (n == broadcast_nsid) (without_all s) (without_one s n) _ _
+  effect_untagged (command.Delete n) = chosen_untagged (n == broadcast_nsid) (without_all s) (without_one s n) _ _
       (attached_untagged s map_of.empty without_any (λ x. refl))
       (attached_untagged s (map_of.remove s.namespaces n) (without n) (λ x. refl))
-  effect_untagged (Attachment n true ids) = attached_untagged s s.namespaces (fewer n ids) (λ x. refl)
-  effect_untagged (Attachment n false ids) = attached_untagged s s.namespaces (more n ids) (λ x. refl)
-  effect_untagged (Format f) =
+  effect_untagged (command.Attachment n true ids) = attached_untagged s s.namespaces (fewer n ids) (λ x. refl)
+  effect_untagged (command.Attachment n false ids) = attached_untagged s s.namespaces (more n ids) (λ x. refl)
+  effect_untagged (command.Format f) =
       ap (λ ns. record (untagged s) { namespaces = changed_at_keys ns (in_format f.lbaf f.mset) s.namespaces })
       (sym (concerned_untagged f.nsid))
-  effect_untagged (SetFeature k) = mapped_untagged _
+  effect_untagged (command.SetFeature k) = mapped_untagged _
       (λ f. with_controller (untagged s) c (with_values f k.value k.save (changed_nsids (untagged s) c k.nsid f)))
       s (λ f. with_untagged _ (with_values f k.value k.save (changed_nsids s c k.nsid f)) (λ x. refl) s c
       ∙ ap (λ ns. with_controller (untagged s) c (with_values f k.value k.save ns)) (sym (nsids_untagged k.nsid f)))
@@ -363,14 +350,10 @@ module _ (s : State) where
     cntlids = pairs_map (λ (a b : Controller). a.identity.cntlid ≢ b.identity.cntlid) untagged_log s.controllers
         w.cntlids;
     namespaces = λ n x e.
-        let old = w.namespaces n x e in
-        record {
-          nsid = old.nsid;
-          format = old.format;
-          private = λ p. subst (λ m. m ≤ 1)
-              (sym (count_by-map (has_attached n) untagged_log (has_attached n) (λ y. refl) s.controllers))
-              (old.private p);
-        };
+        let same = count_by-map (has_attached n) untagged_log (has_attached n) (λ y. refl) s.controllers in
+        let private : x.shared ≡ false → count_by (has_attached n) (map untagged_log s.controllers) ≤ 1 =
+        λ p. omega (arith, same, (w.namespaces n x e).private p) in
+        assumption (private, w.namespaces n x e);
     capacities = w.capacities;
   }
 
@@ -390,13 +373,9 @@ module _ (s : State) where
             (ap (λ (x : Controller). x.identity.cntlid) (at i d (omega arith)) ∙ e
             ∙ sym (ap (λ (x : Controller). x.identity.cntlid) (at j d b)));
         namespaces = λ n x e.
-            let old = w.namespaces n x e in
-            record {
-              nsid = old.nsid;
-              format = old.format;
-              private = λ p. subst (λ m. m ≤ 1)
-                  (count_by-map (has_attached n) untagged_log (has_attached n) (λ y. refl) s.controllers)
-                  (old.private p);
-            };
+            let same = count_by-map (has_attached n) untagged_log (has_attached n) (λ y. refl) s.controllers in
+            let private : x.shared ≡ false → count_by (has_attached n) s.controllers ≤ 1 =
+            λ p. omega (arith, same, (w.namespaces n x e).private p) in
+            assumption (private, w.namespaces n x e);
         capacities = w.capacities;
       }

@@ -134,53 +134,25 @@ module _ (by_nsid by_feature : Table) where
   -- a value inserted by NSID is inserted under the key of Error Recovery for that NSID
   pub inserted_nsid : (n : ℕ) (x : FeatureValue) → values_of (map_of.insert by_nsid n x) by_feature
       ≡ map_of.insert both (recovery_key n) x
-  inserted_nsid n x = same_values _ _ (λ q. grind (
-    arith,
-    nat_tests,
-    of_nsid q n,
-    get_in (map_of.insert by_nsid n x) by_feature q,
-    get_in by_nsid by_feature q,
-    value_of_insert both (recovery_key n) x q,
-    get_of_insert by_nsid n x q.nsid,
-  ))
+  inserted_nsid n x = same_values _ _ (λ q. grind (arith, nat_tests, of_nsid, get_in, value_of_insert, get_of_insert))
 
   -- a value inserted by feature and selector, other than Error Recovery's, is inserted under the key of its place
   pub inserted_place : (n : ℕ) (x : FeatureValue) → n / 32 ≢ 5
       → values_of by_nsid (map_of.insert by_feature n x) ≡ map_of.insert both (key_at n) x
-  inserted_place n x other = same_values _ _ (λ q. grind (
-    arith,
-    nat_tests,
-    of_place q n,
-    get_in by_nsid (map_of.insert by_feature n x) q,
-    get_in by_nsid by_feature q,
-    value_of_insert both (key_at n) x q,
-    get_of_insert by_feature n x (q.fid * 32 + q.selector),
-  ))
+  inserted_place n x other = same_values _ _ (λ q.
+      grind (arith, nat_tests, of_place, get_in, value_of_insert, get_of_insert))
 
   -- a value removed by NSID is removed under the key of Error Recovery for that NSID
   pub removed_nsid : map_of.get by_feature 160 ≡ None → (n : ℕ)
       → values_of (map_of.remove by_nsid n) by_feature ≡ map_of.remove both (recovery_key n)
-  removed_nsid apart n = same_values _ _ (λ q. grind (
-    arith,
-    nat_tests,
-    of_nsid q n,
-    get_in (map_of.remove by_nsid n) by_feature q,
-    get_in by_nsid by_feature q,
-    value_of_remove both (recovery_key n) q,
-    get_of_remove by_nsid n q.nsid,
-  ))
+  removed_nsid apart n = same_values _ _ (λ q.
+      grind (arith, nat_tests, of_nsid, get_in, value_of_remove, get_of_remove))
 
   -- removing all values by NSID keeps exactly the values of keys without an NSID
   pub cleared : map_of.get by_nsid 0 ≡ None
       → values_of map_of.empty by_feature ≡ map_of.retain_keys both is_alone
-  cleared none = same_values _ _ (λ q. grind (
-    arith,
-    nat_tests,
-    get_in map_of.empty by_feature q,
-    get_in by_nsid by_feature q,
-    value_of_retain both is_alone q,
-    get-empty {X = FeatureValue} nat_cmp q.nsid,
-  ))
+  cleared none = same_values _ _ (λ q.
+      grind (arith, nat_tests, get_in, value_of_retain, get-empty {X = FeatureValue} nat_cmp))
 
   -- Error Recovery's key for an NSID has what the table by NSID has
   pub got_nsid : map_of.get by_feature 160 ≡ None → (n : ℕ)
@@ -193,13 +165,8 @@ module _ (by_nsid by_feature : Table) where
 
 -- two empty tables have no values
 pub no_values : values_of map_of.empty map_of.empty ≡ map_of.empty
-no_values = same_values _ _ (λ q. grind (
-  arith,
-  get_in map_of.empty map_of.empty q,
-  get-empty {X = FeatureValue} key_cmp q,
-  get-empty {X = FeatureValue} nat_cmp q.nsid,
-  get-empty {X = FeatureValue} nat_cmp (q.fid * 32 + q.selector),
-))
+no_values = same_values _ _ (λ q.
+    grind (arith, get_in, get-empty {X = FeatureValue} key_cmp, get-empty {X = FeatureValue} nat_cmp))
 
 -- ---- by the feature
 

@@ -8,11 +8,8 @@ pub invariant_of-self : goal.invariant_of-self
 invariant_of-self c =
     let t = c.self.inside in
     let are = c.self.invariant in
-    rw c.clear.ensures (record {
-      nsids = over-empty 1 t.by_nsid.count t.by_nsid.first t.by_nsid.count are.nsids.first refl;
-      rows = are.rows;
-      apart = are.apart;
-    })
+    let nsids = over-empty 1 t.by_nsid.count t.by_nsid.first t.by_nsid.count are.nsids.first refl in
+    rw c.clear.ensures (assumption (nsids, are))
 
 pub returns : goal.returns
 returns c =

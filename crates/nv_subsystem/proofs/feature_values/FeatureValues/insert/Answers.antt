@@ -12,11 +12,8 @@ invariant_of-self c =
     let per : (row_of a.feature).per_namespace ≡ true = sym c.is_per_namespace.ensures ∙ c.if-is_per_namespace.true in
     let within = subst (λ m. IsOf 1 m a.nsid) (sym (ap (λ (v : ValueTable). v.nn) c.self.view_is))
     (c.requires.in_range per) in
-    rw c.insert.ensures (record {
-      nsids = over-insert 1 t.by_nsid.count t.by_nsid are.nsids a.nsid a.value within;
-      rows = are.rows;
-      apart = are.apart;
-    })
+    let nsids = over-insert 1 t.by_nsid.count t.by_nsid are.nsids a.nsid a.value within in
+    rw c.insert.ensures (assumption (nsids, are))
 
 pub invariant_of-self-else-is_per_namespace : goal.invariant_of-self-else-is_per_namespace
 invariant_of-self-else-is_per_namespace c =

@@ -7,12 +7,8 @@ use Rattle.nv_subsystem.proofs.feature_values.FeatureValues.remove.Goals as goal
 pub invariant_of-self : goal.invariant_of-self
 invariant_of-self c =
     let t = c.self.inside in
-    let are = c.self.invariant in
-    rw c.remove.ensures.values (record {
-      nsids = over-remove 1 t.by_nsid.count t.by_nsid are.nsids c.args.nsid;
-      rows = are.rows;
-      apart = are.apart;
-    })
+    let nsids = over-remove 1 t.by_nsid.count t.by_nsid c.self.invariant.nsids c.args.nsid in
+    rw c.remove.ensures.values (assumption (nsids, c.self.invariant))
 
 pub returns : goal.returns
 returns c =
