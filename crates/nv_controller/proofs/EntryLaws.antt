@@ -1,13 +1,11 @@
 -- The answer to an entry, and the effect of taking it.
-use Rattle.std.proofs.Common.{◌≡◌, ◌∙◌, ℕ, Bool, ap, ap₂, refl, subst, sym, length, List, Option, Some, None, Result}
+use Rattle.std.proofs.Common.{◌≡◌, ◌∙◌, ℕ, Bool, ap, ap₂, refl, subst, sym, length, List, Option, Some, None}
 use Rattle.std.proofs.Common.{Ok, Err}
 use Rattle.nv_layout.specs.declared.cqe.Cqe.{Cqe}
 use Rattle.nv_layout.specs.declared.sqe.Sqe.{Sqe}
-use Rattle.nv_layout.specs.declared.cqe.Status.{Status}
 use Rattle.nv_queue.specs.Numbers.{next, phase_of, slot_of}
 use Rattle.nv_queue.specs.Rings.{fetched_one, posted_one}
 use Rattle.nv_queue.specs.Slots.{completion_place, submission_place, with_completion}
-use Rattle.nv_prp.specs.Place.{written_at}
 use Rattle.nv_command.specs.Logs.{without_phases}
 use Rattle.nv_model.specs.Answer.{answer_to}
 use Rattle.nv_model.specs.Meaning.{refusal_of, reply_of}
@@ -16,8 +14,8 @@ use Rattle.nv_model.specs.Conditions.{limit_of}
 use Rattle.nv_bus.proofs.TagLaws.{dword0_tagged, tagged}
 use Rattle.nv_controller.specs.Tags.{answered_unless, next_scene, settled_unless, untagged_scene}
 use Rattle.nv_controller.proofs.Words.{accepted_answer, call_in, call_of, Command, completion_in, completion_with}
-use Rattle.nv_controller.proofs.Words.{data_of, entry_in, exchange_in, FitsRecord, IsReplyTo, IsWellFormed, length-map}
-use Rattle.nv_controller.proofs.Words.{Moves, MovesBy, next_step, One, Refusal, refusal_untagged, Reply, reply_untagged}
+use Rattle.nv_controller.proofs.Words.{entry_in, exchange_in, FitsRecord, IsReplyTo, IsWellFormed, length-map}
+use Rattle.nv_controller.proofs.Words.{MovesBy, next_step, One, Refusal, refusal_untagged, Reply, reply_untagged}
 use Rattle.nv_controller.proofs.Words.{Scene, State, Step, command_result_of, step, step_by, step_unless, success}
 use Rattle.nv_controller.proofs.Words.{untagged}
 use Rattle.nv_controller.proofs.Words.{untagged_keeps, untagged_log}
@@ -60,19 +58,6 @@ pub refused_by : (s : State) (c : ℕ) (k : Command) (cid : ℕ) (refusal : Refu
 refused_by s c k cid refusal some =
     ap (λ (o : Option Refusal). (step_by o (untagged s) c k cid).answer) (sym (refusal_untagged s c k ∙ some))
 
--- if a reply's data was written to its places, it moved as `Moves` says
-pub moved_reply : (k : Command) (at old new : List ℕ) (r : Reply) (answer : Result Reply Status)
-    → Ok (without_phases r) ≡ answer
-    → new ≡ written_at old at (data_of k r) → Moves k at answer old new
-moved_reply k at old new r answer is written =
-    subst (λ (a : Result Reply Status). Moves k at a old new) is (r, refl, written)
-
--- an answer that is a status moves no data
-pub moved_none : (k : Command) (at old new : List ℕ) (status : Status)
-    (answer : Result Reply Status) → Err status ≡ answer → new ≡ old
-    → Moves k at answer old new
-moved_none k at old new status answer is same = subst (λ (a : Result Reply Status). Moves k at a old new) is same
-
 -- ---- controllers
 
 -- what adds or removes no controller without tags adds or removes none with them
@@ -86,16 +71,6 @@ same_count old new after is same =
     ∙ length-map old.controllers untagged_log
 
 -- ---- what taking one entry did, from its parts
-
--- a completion with the parts that the definitions name is that of the entry
-pub completed : (c : ℕ) (x : Scene) (entry : Sqe) (size limit head : ℕ)
-    → entry ≡ entry_in x → size ≡ x.rings.page_size → limit ≡ limit_of x.state c
-    → (let ring = x.rings.submission in head ≡ slot_of ring.depth (next ring.depth ring.fetched))
-    → completion_with entry.cid head (step_unless (call_of size limit x.bytes entry) x.state c entry).answer
-    ≡ completion_in c x
-completed c x entry size limit head same page most slot =
-    λ i. completion_with (same i).cid (slot i)
-    (step_unless (call_of (page i) (most i) x.bytes (same i)) x.state c (same i)).answer
 
 -- an entry and its completion with its phase tag, and their places, are what the controller takes next
 pub exchanged : (c : ℕ) (x : Scene) (entry : Sqe) (from to : ℕ) (completion : Cqe) (phase : Bool)
@@ -117,69 +92,68 @@ exchanged c x entry from to completion phase same command_result due at there =
       completion_address = there i;
     }
 
--- if its parts did what the definitions say, one entry was taken
-pub taken_one : (c : ℕ) (old new : Scene) (entry : Sqe) (size head : ℕ) (posted : Cqe)
-    → (moved : List ℕ) (limit : ℕ) → let call = call_of size limit old.bytes entry in
-    let step = step_unless call old.state c entry in
-    entry ≡ entry_in old → size ≡ old.rings.page_size → limit ≡ limit_of old.state c
-    → new.state ≡ step.state
-    → MovesBy call step.answer old.bytes moved
-    → new.rings ≡ record old.rings {
-      submission = fetched_one old.rings.submission;
-      completion = posted_one old.rings.completion;
-    }
-    → (let ring = old.rings.submission in head ≡ slot_of ring.depth (next ring.depth ring.fetched))
-    → posted ≡ completion_with entry.cid head step.answer
-    → new.bytes ≡ with_completion moved old.rings.completion posted
-    → One c old new
-taken_one c old new entry size head posted moved limit same page most state moves rings slot made bytes =
-    let call : call_of size limit old.bytes entry ≡ call_in c old =
-    (λ i. call_of (page i) (most i) old.bytes (same i)) in
-    let step : step_unless (call_of size limit old.bytes entry) old.state c entry ≡ next_step c old =
-    ap₂ (λ k e. step_unless k old.state c e) call same in
-    record {
-      state = state ∙ ap (λ s. s.state) step;
-      rings = rings;
-      bytes = (
-        moved,
-        subst (λ k. MovesBy k (next_step c old).answer old.bytes moved) call
-            (subst (λ (s : Step). MovesBy (call_of size limit old.bytes entry) s.answer old.bytes moved) step moves),
-        bytes
-            ∙ ap (with_completion moved old.rings.completion) made
-            ∙ ap (with_completion moved old.rings.completion)
-            (ap (λ (e : Sqe). completion_with e.cid head
-            (step_unless (call_of size limit old.bytes entry) old.state c entry).answer) same
-            ∙ ap₂ (completion_with (entry_in old).cid) slot (ap (λ (s : Step). s.answer) step)),
-      );
-    }
+module _ (c : ℕ) (x : Scene) (entry : Sqe) (size limit head : ℕ) (same : entry ≡ entry_in x)
+    (page : size ≡ x.rings.page_size) (most : limit ≡ limit_of (untagged x.state) c)
+    (slot : let ring = x.rings.submission in head ≡ slot_of ring.depth (next ring.depth ring.fetched)) where
+  -- a completion with the parts that the definitions name is that of the entry
+  pub completed : completion_with entry.cid head
+      (step_unless (call_of size limit x.bytes entry) (untagged x.state) c entry).answer
+      ≡ completion_in c (untagged_scene x)
+  completed = λ i. completion_with (same i).cid (slot i)
+      (step_unless (call_of (page i) (most i) x.bytes (same i)) (untagged x.state) c (same i)).answer
 
--- the same with phase tags
-pub tagged_one : (c : ℕ) (old new : Scene) (entry : Sqe) (size head : ℕ) (phase : Bool) (posted : Cqe) (moved : List ℕ)
-    (limit : ℕ) → let call = call_of size (limit_of old.state c) old.bytes entry in
-    let bare = untagged_scene old in
-    let step = step_unless (call_of size limit old.bytes entry) bare.state c entry in
-    entry ≡ entry_in old → size ≡ old.rings.page_size → limit ≡ limit_of bare.state c
-    → (let ring = old.rings.completion in phase ≡ phase_of ring.depth ring.posted)
-    → new.state ≡ settled_unless call old.state c entry phase
-    → moved ≡ answered_unless call old.state c old.bytes
-    → new.rings ≡ record old.rings {
-      submission = fetched_one old.rings.submission;
-      completion = posted_one old.rings.completion;
-    }
-    → (let ring = old.rings.submission in head ≡ slot_of ring.depth (next ring.depth ring.fetched))
-    → posted ≡ completion_with entry.cid head step.answer
-    → new.bytes ≡ with_completion moved old.rings.completion posted
-    → new ≡ next_scene c old
-unfolding next_scene
-tagged_one c old new entry size head phase posted moved limit same page most due state sent rings slot made bytes =
-    let bare = untagged_scene old in
-    let completion = made ∙ completed c bare entry size limit head same page most slot in
-    let all : moved ≡ answered_unless (call_in c old) old.state c old.bytes =
-    sent ∙ (λ i. answered_unless (call_of (page i) (limit_of old.state c) old.bytes (same i)) old.state c old.bytes) in
-    let left = state
-    ∙ (λ i. settled_unless (call_of (page i) (limit_of old.state c) old.bytes (same i)) old.state c (same i) (due i)) in
-    λ i. record {
-      state = left i;
-      rings = rings i;
-      bytes = (bytes ∙ (λ j. with_completion (all j) old.rings.completion (completion j))) i;
-    }
+  -- if its parts did what the definitions say, one entry was taken
+  pub taken_one : (new : Scene) (posted : Cqe) (moved : List ℕ) → let call = call_of size limit x.bytes entry in
+      let step = step_unless call (untagged x.state) c entry in
+      new.state ≡ step.state
+      → MovesBy call step.answer x.bytes moved
+      → new.rings ≡ record x.rings {
+        submission = fetched_one x.rings.submission;
+        completion = posted_one x.rings.completion;
+      }
+      → posted ≡ completion_with entry.cid head step.answer
+      → new.bytes ≡ with_completion moved x.rings.completion posted
+      → One c (untagged_scene x) new
+  taken_one new posted moved state moves rings made bytes =
+      let bare = untagged_scene x in
+      let call : call_of size limit x.bytes entry ≡ call_in c bare =
+      (λ i. call_of (page i) (most i) x.bytes (same i)) in
+      let step : step_unless (call_of size limit x.bytes entry) bare.state c entry ≡ next_step c bare =
+      ap₂ (λ k e. step_unless k bare.state c e) call same in
+      record {
+        state = state ∙ ap (λ s. s.state) step;
+        rings = rings;
+        bytes = (
+          moved,
+          subst (λ k. MovesBy k (next_step c bare).answer x.bytes moved) call
+              (subst (λ (s : Step). MovesBy (call_of size limit x.bytes entry) s.answer x.bytes moved) step moves),
+          bytes ∙ ap (with_completion moved x.rings.completion) (made ∙ completed),
+        );
+      }
+
+  -- the same with phase tags
+  pub tagged_one : (new : Scene) (phase : Bool) (posted : Cqe) (moved : List ℕ)
+      → let call = call_of size (limit_of x.state c) x.bytes entry in
+      (let ring = x.rings.completion in phase ≡ phase_of ring.depth ring.posted)
+      → new.state ≡ settled_unless call x.state c entry phase
+      → moved ≡ answered_unless call x.state c x.bytes
+      → new.rings ≡ record x.rings {
+        submission = fetched_one x.rings.submission;
+        completion = posted_one x.rings.completion;
+      }
+      → posted ≡ completion_with entry.cid head
+      (step_unless (call_of size limit x.bytes entry) (untagged x.state) c entry).answer
+      → new.bytes ≡ with_completion moved x.rings.completion posted
+      → new ≡ next_scene c x
+  unfolding next_scene
+  tagged_one new phase posted moved due state sent rings made bytes =
+      let completion = made ∙ completed in
+      let all : moved ≡ answered_unless (call_in c x) x.state c x.bytes =
+      sent ∙ (λ i. answered_unless (call_of (page i) (limit_of x.state c) x.bytes (same i)) x.state c x.bytes) in
+      let left = state
+      ∙ (λ i. settled_unless (call_of (page i) (limit_of x.state c) x.bytes (same i)) x.state c (same i) (due i)) in
+      λ i. record {
+        state = left i;
+        rings = rings i;
+        bytes = (bytes ∙ (λ j. with_completion (all j) x.rings.completion (completion j))) i;
+      }

@@ -2,5 +2,4 @@ pub mod Words
 pub mod EntryLaws
 pub mod TurnLaws
 pub mod DataLaws
-pub mod ResetLaws
 pub mod BusLaws

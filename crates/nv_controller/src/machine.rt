@@ -67,7 +67,7 @@ fn new_banks(alloc: Global, count: u16) -> Result<Vec<RegisterBank>, Memory>
 
 /// Writes a register of a controller. A write that clears an EN that was 1 resets the controller.
 /// Section "Controller Level Reset".
-#[tactic(auto, using(crate::proofs::ResetLaws::controllers_stay))]
+#[tactic(auto, using(crate::proofs::BusLaws::resets))]
 fn write_bank(
     subsystem: &mut Subsystem,
     bank: &mut RegisterBank,

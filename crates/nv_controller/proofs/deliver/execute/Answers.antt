@@ -2,7 +2,7 @@ use Rattle.std.proofs.Common.{◌∙◌, Option, ap, refl, sym}
 use Rattle.nv_prp.specs.Place.{written_at}
 use Rattle.nv_controller.specs.Tags.{answered_with}
 use Rattle.nv_controller.proofs.Words.{data_of, places, Refusal, refused_answer, Reply, success, command_result_of}
-use Rattle.nv_controller.proofs.EntryLaws.{answered, moved_none, moved_reply, refused_by}
+use Rattle.nv_controller.proofs.EntryLaws.{answered, refused_by}
 use Rattle.nv_controller.proofs.deliver.execute.Goals as goal
 
 pub deliver-requires-clause-is_reply : goal.deliver-requires-clause-is_reply
@@ -34,11 +34,9 @@ returns-in-Ok-clause-bytes g c =
 
 pub returns-in-Ok-clause-moved : goal.returns-in-Ok-clause-moved
 returns-in-Ok-clause-moved g c =
-    moved_reply c.args.command.now (places c.args.entry_data.now.spans) (g.M.PagedMemory.bytes c.args.mem.now)
-    (g.M.PagedMemory.bytes c.deliver.new.mem) _ _
-    (answered c.args.subsystem.now c.args.ctrl c.args.command.now c.args.origin.cid _ c.requires.well_formed
-    (sym c.in-Ok.ensures)).answer
-    c.deliver.ensures.bytes
+    let is = answered c.args.subsystem.now c.args.ctrl c.args.command.now c.args.origin.cid _ c.requires.well_formed
+    (sym c.in-Ok.ensures) in
+    rw (← is.answer) (c.in-Ok.reply, refl, c.deliver.ensures.bytes)
 
 pub returns-in-Err-clause-command_result : goal.returns-in-Err-clause-command_result
 returns-in-Err-clause-command_result g c =
@@ -53,6 +51,5 @@ returns-in-Err-clause-bytes g c =
 
 pub returns-in-Err-clause-moved : goal.returns-in-Err-clause-moved
 returns-in-Err-clause-moved g c =
-    moved_none c.args.command.now (places c.args.entry_data.now.spans) (g.M.PagedMemory.bytes c.args.mem.now) _ _ _
-    (refused_by c.args.subsystem.now c.args.ctrl c.args.command.now c.args.origin.cid _
-    (refused_answer _ _ _ (sym c.in-Err.ensures))) refl
+    let some = refused_answer _ _ _ (sym c.in-Err.ensures) in
+    rw (← (refused_by c.args.subsystem.now c.args.ctrl c.args.command.now c.args.origin.cid _ some)) refl
