@@ -43,23 +43,21 @@ impl<S: Sink> Traced<S> {
 }
 
 impl<S: Sink> Bus for Traced<S> {
-    ghost use Rattle.std.specs.Prelude.{◌≡◌};
     ghost use Rattle.nv_controller.specs.Exchanges.{turn_exchanges};
-    ghost use Rattle.nv_controller.specs.Machine.{bus_of, machine_written};
-    ghost use Rattle.nv_controller.specs.Tags.{TaggedTurn};
+    ghost use Rattle.nv_controller.specs.Machine.{Writes, bus_of};
+    ghost use Rattle.nv_controller.specs.Tags.{Turns};
     ghost use Rattle.nv_trace.specs.Said.{Says, SaysAll, exchange_texts, write_text};
 
     ghost meaning = { λ t. bus_of t.machine };
 
-    // The machine did the write, and its line is in the sink.
-    ghost was_written = { λ t ctrl offset dword u.
-        (u.machine.state ≡ machine_written t.machine ctrl offset dword)
+    // The machine did the write, to the subsystem and to its registers, and its line is in the sink.
+    ghost was_written = { λ t ctrl offset dword u. Writes t.machine ctrl offset dword u.machine
         × Says S.state (write_text ctrl offset dword) t.voice.sink u.voice.sink };
 
     // The machine took the turn, with the phase tags in its logs, and the lines of the entries that
     // were taken and of their completions are in the sink.
     ghost was_turned = { λ t bytes ctrl most count u bytes'.
-        TaggedTurn ctrl count t.machine bytes u.machine bytes'
+        Turns t.machine bytes ctrl most count u.machine bytes'
         × SaysAll S.state (exchange_texts ctrl (turn_exchanges count ctrl t.machine bytes))
         t.voice.sink u.voice.sink };
 

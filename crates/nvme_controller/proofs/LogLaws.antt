@@ -9,7 +9,7 @@ use Rattle.nv_layout.specs.ErrorEntryBytes.{bytes_of_error_entry}
 use Rattle.nv_layout.specs.declared.error_entry.ErrorEntry.{ErrorEntry}
 use Rattle.nv_model.specs.LogEntry.{log_entry_of}
 use Rattle.nv_model.specs.State.{State}
-use Rattle.nvme_controller.proofs.CountLaws.{controller_within, controllers_of}
+use Rattle.nv_controller.proofs.BusLaws.{controller_within, controllers_of}
 use Rattle.nvme_controller.specs.Calls.{EntryTold}
 
 -- the bytes of an entry tell the entry, and the call returns 1
