@@ -74,8 +74,8 @@ every_completion w cqid sqid terms command_result written taken =
                 (scene_by (entry_in x) terms.sqid (outcome_of terms w.page_size x.stored x.bytes) x).post
                 else w.completions cqid) (eq-eqb cqid cqid refl) ∙ both.1;
           }),
-      λ is. (let both = taken_there (entry_in y) sqid (answer_of w.page_size command_result written y.stored y.bytes) y taken
-          refl
+      λ is. (let both = taken_there (entry_in y) sqid (answer_of w.page_size command_result written y.stored y.bytes) y
+          taken refl
           (λ e. answer_length w.page_size command_result written y.stored y.bytes e _ refl) is in
           record {
             slot = both.0;
