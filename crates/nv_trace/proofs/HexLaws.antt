@@ -7,6 +7,14 @@ use Rattle.std.specs.Fmt.{digit_glyph, digits, digits_onto}
 use Rattle.std.specs.Prelude.{◌==◌, if◌then◌else◌}
 use Rattle.nv_trace.specs.Lines.{hex}
 
+chosen : (b : Bool) (xs ys : List ℕ) → b ≡ true → (if b then xs else ys) ≡ xs
+chosen true xs ys is = refl
+chosen false xs ys is = absurd (cc)
+
+refused : (b : Bool) (xs ys : List ℕ) → b ≡ false → (if b then xs else ys) ≡ ys
+refused true xs ys is = absurd (cc)
+refused false xs ys is = refl
+
 -- before the first digit is written, there are none behind it
 pub begins : (n : ℕ) (room : List ℕ) → length room ≡ 16 → digits_onto (48 + 16) 16 false n (drop 16 room) ≡ hex n
 unfolding digits
@@ -25,13 +33,23 @@ module _ (at n number : ℕ) (room : List ℕ) (some : 0 < at) (few : at ≤ 16)
 
   -- if nothing is left after a digit, all digits are written
   pub ended : n / 16 ≡ 0 → drop (at - 1) (set room (at - 1) (digit_glyph false (n % 16))) ≡ hex number
-  ended none = let is : (n / 16 == 0) ≡ true = grind (arith, none) in behind ∙ (rw (fuel, is) at left)
+  ended none =
+      behind
+      ∙ sym (chosen (n / 16 == 0) (digit_glyph false (n % 16) ∷ drop at room)
+      (digits_onto (48 + (at - 1)) 16 false (n / 16) (digit_glyph false (n % 16) ∷ drop at room)) (grind (arith, none)))
+      ∙ sym (ap (λ k. digits_onto k 16 false n (drop at room)) fuel)
+      ∙ left
 
   -- otherwise the digits before it are left
   pub goes_on : n / 16 ≢ 0
       → digits_onto (48 + (at - 1)) 16 false (n / 16) (drop (at - 1) (set room (at - 1) (digit_glyph false (n % 16))))
       ≡ hex number
-  goes_on more = let is : (n / 16 == 0) ≡ false = grind (arith, more) in rw behind (rw (fuel, is) at left)
+  goes_on more =
+      ap (λ acc. digits_onto (48 + (at - 1)) 16 false (n / 16) acc) behind
+      ∙ sym (refused (n / 16 == 0) (digit_glyph false (n % 16) ∷ drop at room)
+      (digits_onto (48 + (at - 1)) 16 false (n / 16) (digit_glyph false (n % 16) ∷ drop at room)) (grind (arith, more)))
+      ∙ sym (ap (λ k. digits_onto k 16 false n (drop at room)) fuel)
+      ∙ left
 
 -- a number of at most k + 1 digits has one of at most k digits before its last
 pub fewer : (at n : ℕ) → 0 < at → n < 16 ^ at → n / 16 < 16 ^ (at - 1)

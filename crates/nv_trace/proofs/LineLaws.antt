@@ -5,6 +5,7 @@ use Rattle.std.proofs.Common.{◌≢◌, Bool, codes, false, true}
 use Rattle.std.proofs.Math.Seq.{take-append-add}
 use Rattle.std.proofs.lemmas.List.{length-take, length-take-le, same_lists, set_split, places, take_all}
 use Rattle.std.proofs.lemmas.Slice.{take-put_mid}
+use Rattle.std.specs.List.{FoldsTo, concat}
 use Rattle.std.specs.Prelude.{◌==◌, if◌then◌else◌}
 use Rattle.nv_trace.specs.Lines.{field_text, hex}
 use borrow.Rule.Slice.PartMut.{put_mid}
@@ -41,8 +42,67 @@ first_of_both zero xs ys = refl
 first_of_both (suc n) [] ys = refl
 first_of_both (suc n) (x ∷ xs) ys = ap (λ l. x ∷ l) (first_of_both n xs ys)
 
--- parts that were added one after another, each to a cut line, are one text
-pub ruleset parts = (first_of_both, append_assoc)
+-- what a line is after one more part
+abbrev pub Took : ℕ → List ℕ → List ℕ → List ℕ → Type 0
+Took n line part longer = longer ≡ take n (line ++ part)
+
+-- a cut line to which each of several parts was added is the line and all parts, cut to n bytes
+all_parts : (n : ℕ) (line : List ℕ) (parts : List (List ℕ)) (last : List ℕ)
+    → FoldsTo (Took n) (take n line) parts last → last ≡ take n (line ++ concat parts)
+all_parts n line [] last same = sym same ∙ ap (λ l. take n l) (sym (append-nil line))
+all_parts n line (part ∷ parts) last h =
+    let is : h.0 ≡ take n (line ++ part) = h.1 ∙ first_of_both n line part in
+    all_parts n (line ++ part) parts last (subst (λ l. FoldsTo (Took n) l parts last) is h.2)
+    ∙ ap (λ l. take n l) (append_assoc line part (concat parts))
+
+-- several parts as one text
+abbrev pub joined : List (List ℕ) → List ℕ
+joined [] = []
+joined (part ∷ []) = part
+joined (part ∷ other ∷ parts) = part ++ joined (other ∷ parts)
+
+joined_all : (parts : List (List ℕ)) → concat parts ≡ joined parts
+joined_all [] = refl
+joined_all (part ∷ []) = append-nil part
+joined_all (part ∷ other ∷ parts) = ap (λ l. part ++ l) (joined_all (other ∷ parts))
+
+-- each of several parts was added to a line, which is cut to n bytes
+pub record Added (n : ℕ) (line : List ℕ) (parts : List (List ℕ)) (last : List ℕ) : Type 0 where
+  pub each : FoldsTo (Took n) line parts last
+
+-- nothing was added
+pub as_was : {n : ℕ} {line : List ℕ} → Added n line [] line
+as_was = record { each = refl }
+
+-- one part was added, and then others
+pub added : {n : ℕ} {line part last : List ℕ} {parts : List (List ℕ)} (mid : List ℕ) → mid ≡ take n (line ++ part)
+    → Added n mid parts last → Added n line (part ∷ parts) last
+added mid one others = record { each = (mid, one, others.each) }
+
+-- a line to which several parts were added is the line and all parts, cut to n bytes
+pub more_parts : (n : ℕ) (line part : List ℕ) (parts : List (List ℕ)) (last : List ℕ)
+    → Added n line (part ∷ parts) last → last ≡ take n (line ++ joined (part ∷ parts))
+more_parts n line part parts last all =
+    all_parts n (line ++ part) parts last (subst (λ l. FoldsTo (Took n) l parts last) all.each.1 all.each.2)
+    ∙ ap (λ l. take n l) (append_assoc line part (concat parts))
+    ∙ ap (λ l. take n (line ++ l)) (joined_all (part ∷ parts))
+
+-- the same of a line that was empty
+pub whole_line : (n : ℕ) (line part : List ℕ) (parts : List (List ℕ)) (last : List ℕ) → line ≡ []
+    → Added n line (part ∷ parts) last → last ≡ take n (joined (part ∷ parts))
+whole_line n line part parts last none all =
+    more_parts n line part parts last all ∙ ap (λ l. take n (l ++ joined (part ∷ parts))) none
+
+-- a line to which an equal text, number or field is added
+pub said : (line : List ℕ) {text text' : List ℕ} → text ≡ text' → take 319 (line ++ text) ≡ take 319 (line ++ text')
+said line same = ap (λ l. take 319 (line ++ l)) same
+
+pub hexed : (line : List ℕ) {n n' : ℕ} → n ≡ n' → take 319 (line ++ hex n) ≡ take 319 (line ++ hex n')
+hexed line same = ap (λ n. take 319 (line ++ hex n)) same
+
+pub fielded : (line name : List ℕ) {n n' : ℕ} → n ≡ n'
+    → take 319 (line ++ field_text name n) ≡ take 319 (line ++ field_text name n')
+fielded line name same = ap (λ n. take 319 (line ++ field_text name n)) same
 
 -- a line that was cut has at most n bytes
 pub cut_short : (n : ℕ) (text line : List ℕ) → line ≡ take n text → length line ≤ n
@@ -50,13 +110,19 @@ cut_short n text line is = omega (arith, ap length is, length-take n text)
 
 -- ---- fields
 
+field_by : (b : Bool) (xs ys : List ℕ) (t : Bool) → b ≡ t → (if b then xs else ys) ≡ (if t then xs else ys)
+field_by b xs ys t is = ap (λ x. if x then xs else ys) is
+
 -- a field that is 0 is left out
 pub no_field : (line name : List ℕ) (value : ℕ) → length line ≤ 319 → value ≡ 0
     → line ≡ take 319 (line ++ field_text name value)
 no_field line name value short none =
-    let is : (value == 0) ≡ true = grind (arith, none) in rw (is, append-nil) (sym (take_all 319 line short))
+    sym (take_all 319 line short) ∙ ap (λ l. take 319 l) (sym (append-nil line))
+    ∙ ap (λ l. take 319 (line ++ l))
+    (sym (field_by (value == 0) [] (codes " " ++ (name ++ (codes "=0x" ++ hex value))) true (grind (arith, none))))
 
 -- any other field has its name and its value
 pub a_field : (name : List ℕ) (value : ℕ) → value ≢ 0
     → codes " " ++ (name ++ (codes "=0x" ++ hex value)) ≡ field_text name value
-a_field name value some = let is : (value == 0) ≡ false = grind (arith, some) in rw is
+a_field name value some =
+    sym (field_by (value == 0) [] (codes " " ++ (name ++ (codes "=0x" ++ hex value))) false (grind (arith, some)))
