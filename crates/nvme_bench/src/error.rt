@@ -7,7 +7,7 @@ use nv_layout::LayoutError;
 use nv_prp::PrpError;
 use nv_queue::{CqFull, RingFull};
 use nv_subsystem::SubsystemError;
-use std::alloc::{AllocError, AllocFailed};
+use std::alloc::AllocError;
 use thiserror::Error;
 
 /// What is wrong with an argument of a line.
@@ -34,7 +34,9 @@ impl Slip {
 #[derive(Clone, Copy, Debug, PartialEq, Eq, Error)]
 pub(crate) enum OperationError {
     #[error("out of memory")]
-    Memory,
+    Memory(#[from(alloc)] AllocError),
+    #[error("out of memory")]
+    HostMemory(#[from] Memory),
     #[error("error: not UTF-8 text")]
     NotText,
     #[error("error: no such operation")]
@@ -43,13 +45,13 @@ pub(crate) enum OperationError {
     #[error("error: argument {0}: {1}")]
     Argument(usize, Slip),
     #[error("refused: outside the memory")]
-    OutsideMemory,
+    OutsideMemory(#[from] OutOfMemoryRange),
     #[error("refused: no such page")]
     NoPage,
     #[error("refused: no page size")]
     PageSize,
     #[error("refused: more than 2,047 identifiers")]
-    CountTooLarge,
+    CountTooLarge(#[from] LayoutError),
     #[error("refused: PRP offset invalid")]
     PrpOffset,
     #[error("refused: PRP outside the memory")]
@@ -75,9 +77,9 @@ pub(crate) enum OperationError {
     #[error("refused: slot outside the memory")]
     SlotOutside,
     #[error("refused: submission ring full")]
-    SubmissionsFull,
+    SubmissionsFull(#[from] RingFull),
     #[error("refused: completion ring full")]
-    CompletionsFull,
+    CompletionsFull(#[from] CqFull),
     #[error("refused: no submission")]
     NoSubmission,
     #[error("refused: no completion")]
@@ -87,7 +89,7 @@ pub(crate) enum OperationError {
     #[error("refused: no head to tell")]
     NoHead,
     #[error("refused: {0}")]
-    File(SubsystemError),
+    File(#[from] SubsystemError),
     #[error("refused: no such controller")]
     NoController,
     #[error("refused: no such entry")]
@@ -97,42 +99,23 @@ pub(crate) enum OperationError {
     #[error("refused: no driver")]
     NoDriver,
     #[error("refused: {0}")]
-    Driver(DriverError),
+    Driver(#[from] DriverError),
     #[error("refused: part of a log")]
     PartOfLog,
     #[error("refused: not 1 to 64 whole entries")]
     Entries,
 }
 
-impl From<AllocError> for OperationError {
-    fn from(_error: AllocError) -> OperationError {
-        OperationError::Memory
-    }
-}
-
-impl<T: Drop> From<AllocFailed<T>> for OperationError {
-    fn from(_error: AllocFailed<T>) -> OperationError {
-        OperationError::Memory
-    }
-}
-
-impl From<Memory> for OperationError {
-    fn from(_error: Memory) -> OperationError {
-        OperationError::Memory
-    }
-}
-
-impl From<OutOfMemoryRange> for OperationError {
-    fn from(_error: OutOfMemoryRange) -> OperationError {
-        OperationError::OutsideMemory
-    }
-}
-
-impl From<LayoutError> for OperationError {
-    fn from(error: LayoutError) -> OperationError {
-        match error {
-            LayoutError::CountTooLarge => OperationError::CountTooLarge,
-        }
+impl OperationError {
+    /// Returns whether memory ran out.
+    pub(crate) fn is_lack_of_memory(self) -> bool {
+        matches!(
+            self,
+            OperationError::Memory(_)
+                | OperationError::HostMemory(_)
+                | OperationError::File(SubsystemError::Memory)
+                | OperationError::Driver(DriverError::Memory)
+        )
     }
 }
 
@@ -141,36 +124,6 @@ impl From<PrpError> for OperationError {
         match error {
             PrpError::Offset => OperationError::PrpOffset,
             PrpError::Outside => OperationError::PrpOutside,
-        }
-    }
-}
-
-impl From<RingFull> for OperationError {
-    fn from(_error: RingFull) -> OperationError {
-        OperationError::SubmissionsFull
-    }
-}
-
-impl From<CqFull> for OperationError {
-    fn from(_error: CqFull) -> OperationError {
-        OperationError::CompletionsFull
-    }
-}
-
-impl From<SubsystemError> for OperationError {
-    fn from(error: SubsystemError) -> OperationError {
-        match error {
-            SubsystemError::Memory => OperationError::Memory,
-            fault => OperationError::File(fault),
-        }
-    }
-}
-
-impl From<DriverError> for OperationError {
-    fn from(error: DriverError) -> OperationError {
-        match error {
-            DriverError::Memory => OperationError::Memory,
-            other => OperationError::Driver(other),
         }
     }
 }

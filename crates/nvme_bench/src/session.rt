@@ -52,7 +52,7 @@ impl Bench {
         }
         match self.perform_line(alloc, line) {
             Ok(answer) => Ok(Some(answer.line()?)),
-            Err(OperationError::Memory) => Err(AllocError),
+            Err(error) if error.is_lack_of_memory() => Err(AllocError),
             Err(error) => Ok(Some(format!(in alloc; "{error}\n")?)),
         }
     }

@@ -107,7 +107,7 @@ impl Watched {
         ensures { self.new.machine ≡ self.old.machine }
     {
         if !self.is_whole || !self.entries.is_whole {
-            return Err(OperationError::Memory);
+            return Err(OperationError::Memory(AllocError));
         }
         let answer = Answer::new(alloc)
             .numbers("writes", self.writes.as_slice())?
