@@ -22,6 +22,10 @@ impl Answer {
         }
     }
 
+    pub(crate) fn alloc(&self) -> Global {
+        self.alloc
+    }
+
     /// Begins a value.
     fn key(&mut self, key: &str) -> Result<(), AllocError> {
         if !self.text.is_empty() {
@@ -32,14 +36,14 @@ impl Answer {
     }
 
     /// Adds a number.
-    pub(crate) fn number(mut self, key: &str, number: u64) -> Result<Answer, AllocError> {
+    pub(crate) fn number(mut self, key: &str, number: u64) -> Answered {
         self.key(key)?;
         write!(self.text, "0x{number:x}")?;
         Ok(self)
     }
 
     /// Adds numbers, with commas between them.
-    pub(crate) fn numbers(mut self, key: &str, numbers: &[u64]) -> Result<Answer, AllocError> {
+    pub(crate) fn numbers(mut self, key: &str, numbers: &[u64]) -> Answered {
         self.key(key)?;
         for (place, number) in numbers.iter().enumerate() {
             if place > 0 {
@@ -51,7 +55,7 @@ impl Answer {
     }
 
     /// Adds bytes, in two hexadecimal digits each.
-    pub(crate) fn bytes(mut self, key: &str, bytes: &[u8]) -> Result<Answer, AllocError> {
+    pub(crate) fn bytes(mut self, key: &str, bytes: &[u8]) -> Answered {
         self.key(key)?;
         let digits = hex::encode(self.alloc, bytes)?;
         self.text.push_str(digits.as_str())?;

@@ -8,7 +8,7 @@ use std::alloc::{AllocError, Global};
 /// An argument that was read.
 #[derive(Debug, Drop)]
 struct Argument {
-    key: &'static str,
+    key: String,
     value: Value,
 }
 
@@ -63,7 +63,7 @@ impl OperationArguments {
         }
         match row.read(alloc, text)? {
             Some(value) => Ok(Argument {
-                key: row.key,
+                key: String::from_str(alloc, row.key)?,
                 value,
             }),
             None => Err(Slip::Wrong.at(place)),
@@ -79,7 +79,7 @@ impl OperationArguments {
     /// Returns the value of a key.
     fn value(&self, key: &str) -> Option<&Value> {
         for argument in self.given.as_slice() {
-            if argument.key == key {
+            if argument.key.as_str() == key {
                 return Some(&argument.value);
             }
         }

@@ -2,14 +2,9 @@
 
 use crate::answer::{Answer, Answered};
 use crate::arguments::OperationArguments;
-use crate::error::OperationError;
-use crate::row::Row;
+use crate::session::Bench;
 use nv_command::{Command, Decoded, StatusCode, Transfer};
 use nv_layout::{ControllerIds, CtrlList, Sqe, Status};
-use std::alloc::{AllocError, Global};
-
-/// The most bytes that the host sends with a command.
-pub(crate) const MOST_SENT: usize = 8192;
 
 /// Returns the name of a command.
 fn name_of(command: &Command) -> &'static str {
@@ -31,17 +26,17 @@ fn name_of(command: &Command) -> &'static str {
 }
 
 /// Adds the identifiers of controllers.
-fn add_cntlids(alloc: Global, answer: Answer, list: &ControllerIds) -> Result<Answer, AllocError> {
+fn add_cntlids(answer: Answer, list: &ControllerIds) -> Answered {
     let cntlids: Vec<u64> = list
         .as_slice()
         .iter()
         .map(|cntlid| u64::from(*cntlid))
-        .collect(alloc)?;
+        .collect(answer.alloc())?;
     answer.numbers("cntlids", cntlids.as_slice())
 }
 
 /// Adds the name of a command with its NSID, and its own fields.
-fn add_command(alloc: Global, answer: Answer, command: &Command) -> Result<Answer, AllocError> {
+fn add_command(answer: Answer, command: &Command) -> Answered {
     let answer = answer.number(name_of(command), u64::from(command.nsid()))?;
     match command {
         Command::Create(wanted) => answer
@@ -50,7 +45,7 @@ fn add_command(alloc: Global, answer: Answer, command: &Command) -> Result<Answe
             .number("flbas", u64::from(wanted.flbas))?
             .number("dps", u64::from(wanted.dps))?
             .number("nmic", u64::from(wanted.nmic)),
-        Command::Attachment { list, .. } => add_cntlids(alloc, answer, list),
+        Command::Attachment { list, .. } => add_cntlids(answer, list),
         Command::Format(asked) => answer
             .number("lbaf", u64::from(asked.lbaf.get()))?
             .number("mset", u64::from(asked.mset))?
@@ -74,7 +69,7 @@ fn add_command(alloc: Global, answer: Answer, command: &Command) -> Result<Answe
 }
 
 /// Adds the direction and the length of a command's data, if it has some.
-fn add_transfer(answer: Answer, transfer: Transfer) -> Result<Answer, AllocError> {
+fn add_transfer(answer: Answer, transfer: Transfer) -> Answered {
     match transfer {
         Transfer::NoData => Ok(answer),
         Transfer::ToHost(len) => answer.number("to_host", len),
@@ -82,48 +77,37 @@ fn add_transfer(answer: Answer, transfer: Transfer) -> Result<Answer, AllocError
     }
 }
 
-/// Reads the arguments of a command: its entry, and the data that the host sends.
-fn read_arguments(alloc: Global, words: &[&str]) -> Result<OperationArguments, OperationError> {
-    let rows = [
-        Row::bytes("entry", 64),
-        Row::bytes("sent", MOST_SENT).optional(),
-    ];
-    OperationArguments::read(alloc, words, &rows)
-}
+impl Bench {
+    /// Answers the command of an entry, and the entry that encodes it.
+    pub(crate) fn command(&mut self, given: &OperationArguments, answer: Answer) -> Answered {
+        let entry = Sqe::get(&given.array("entry"));
+        let mut place = CtrlList::new();
+        let command = Decoded::of(&entry)?.command(given.bytes("sent"), &mut place)?;
+        let answer = add_command(answer, &command)?;
+        let mut bytes = [0xff; 64];
+        command.entry(entry.cid).put(&mut bytes);
+        add_transfer(answer, command.transfer())?.bytes("entry", &bytes)
+    }
 
-/// Answers the command of an entry, and the entry that encodes it.
-pub(crate) fn describe(alloc: Global, words: &[&str]) -> Answered {
-    let given = read_arguments(alloc, words)?;
-    let entry = Sqe::get(&given.array("entry"));
-    let mut place = CtrlList::new();
-    let command = Decoded::of(&entry)?.command(given.bytes("sent"), &mut place)?;
-    let answer = add_command(alloc, Answer::new(alloc), &command)?;
-    let mut bytes = [0xff; 64];
-    command.entry(entry.cid).put(&mut bytes);
-    Ok(add_transfer(answer, command.transfer())?.bytes("entry", &bytes)?)
-}
+    /// Answers a page of FFh that begins with the data that the host sends with a command.
+    pub(crate) fn host_data(&mut self, given: &OperationArguments, answer: Answer) -> Answered {
+        let entry = Sqe::get(&given.array("entry"));
+        let mut place = CtrlList::new();
+        let command = Decoded::of(&entry)?.command(given.bytes("sent"), &mut place)?;
+        let mut page = [0xff; 4096];
+        command.put(&mut page);
+        answer.bytes("bytes", &page)
+    }
 
-/// Answers a page of FFh that begins with the data that the host sends with a command.
-pub(crate) fn host_data(alloc: Global, words: &[&str]) -> Answered {
-    let given = read_arguments(alloc, words)?;
-    let entry = Sqe::get(&given.array("entry"));
-    let mut place = CtrlList::new();
-    let command = Decoded::of(&entry)?.command(given.bytes("sent"), &mut place)?;
-    let mut page = [0xff; 4096];
-    command.put(&mut page);
-    Ok(Answer::new(alloc).bytes("bytes", &page)?)
-}
+    /// Answers the data transfer of an entry's command.
+    pub(crate) fn transfer(&mut self, given: &OperationArguments, answer: Answer) -> Answered {
+        let decoded = Decoded::of(&Sqe::get(&given.array("entry")))?;
+        add_transfer(answer, decoded.transfer())
+    }
 
-/// Answers the data transfer of an entry's command.
-pub(crate) fn transfer(alloc: Global, words: &[&str]) -> Answered {
-    let given = OperationArguments::read(alloc, words, &[Row::bytes("entry", 64)])?;
-    let decoded = Decoded::of(&Sqe::get(&given.array("entry")))?;
-    Ok(add_transfer(Answer::new(alloc), decoded.transfer())?)
-}
-
-/// Answers the name of a status, in ASCII bytes.
-pub(crate) fn status_name(alloc: Global, words: &[&str]) -> Answered {
-    let given = OperationArguments::read(alloc, words, &[Row::word("status")])?;
-    let name = StatusCode::name_of(Status::from_number(given.word("status")));
-    Ok(Answer::new(alloc).bytes("name", name.as_bytes())?)
+    /// Answers the name of a status, in ASCII bytes.
+    pub(crate) fn status_name(&mut self, given: &OperationArguments, answer: Answer) -> Answered {
+        let name = StatusCode::name_of(Status::from_number(given.word("status")));
+        answer.bytes("name", name.as_bytes())
+    }
 }

@@ -2,17 +2,11 @@
 
 use crate::answer::{Answer, Answered};
 use crate::arguments::OperationArguments;
-use crate::commands::MOST_SENT;
 use crate::device::DrivenDevice;
 use crate::error::OperationError;
-use crate::row::{MOST_MOVED, Row};
 use crate::session::Bench;
 use nv_driver::Geometry;
 use nv_subsystem::DEMO;
-use std::alloc::Global;
-
-/// The most bytes of a subsystem file.
-const MOST_OF_FILE: usize = 4_194_304;
 
 /// Returns the geometry that the arguments describe.
 fn geometry_in(given: &OperationArguments) -> Geometry {
@@ -31,144 +25,84 @@ impl Bench {
         self.device.as_mut().ok_or(OperationError::NoController)
     }
 
-    pub(crate) fn subsystem(&mut self, alloc: Global, words: &[&str]) -> Answered {
-        let rows = [Row::bytes("file", MOST_OF_FILE).optional()];
-        let given = OperationArguments::read(alloc, words, &rows)?;
+    pub(crate) fn subsystem(&mut self, given: &OperationArguments, answer: Answer) -> Answered {
         let file = if given.has("file") {
             given.bytes("file")
         } else {
             DEMO.as_bytes()
         };
-        self.device = Some(DrivenDevice::new(alloc, file)?);
-        Ok(Answer::new(alloc))
+        self.device = Some(DrivenDevice::new(answer.alloc(), file)?);
+        Ok(answer)
     }
 
-    pub(crate) fn controllers(&self, alloc: Global, words: &[&str]) -> Answered {
-        OperationArguments::read(alloc, words, &[])?;
+    pub(crate) fn controllers(&mut self, _: &OperationArguments, answer: Answer) -> Answered {
         let count = match &self.device {
             Some(device) => device.controllers(),
             None => 0,
         };
-        Ok(Answer::new(alloc).number("controllers", u64::from(count))?)
+        answer.number("controllers", u64::from(count))
     }
 
-    pub(crate) fn read32(&mut self, alloc: Global, words: &[&str]) -> Answered {
-        let given = OperationArguments::read(
-            alloc,
-            words,
-            &[Row::word("ctrl"), Row::dword("offset")],
-        )?;
+    pub(crate) fn read32(&mut self, given: &OperationArguments, answer: Answer) -> Answered {
         let value = self
             .device()?
             .read32(given.word("ctrl"), given.dword("offset"))?;
-        Ok(Answer::new(alloc).number("value", u64::from(value))?)
+        answer.number("value", u64::from(value))
     }
 
-    pub(crate) fn write32(&mut self, alloc: Global, words: &[&str]) -> Answered {
-        let rows = [Row::word("ctrl"), Row::dword("offset"), Row::dword("value")];
-        let given = OperationArguments::read(alloc, words, &rows)?;
+    pub(crate) fn write32(&mut self, given: &OperationArguments, answer: Answer) -> Answered {
         let (offset, value) = (given.dword("offset"), given.dword("value"));
         self.device()?.write32(given.word("ctrl"), offset, value)?;
-        Ok(Answer::new(alloc))
+        Ok(answer)
     }
 
-    pub(crate) fn turn(&mut self, alloc: Global, words: &[&str]) -> Answered {
-        let given = OperationArguments::read(
-            alloc,
-            words,
-            &[Row::word("ctrl"), Row::word("most")],
-        )?;
+    pub(crate) fn turn(&mut self, given: &OperationArguments, answer: Answer) -> Answered {
         let Some(device) = &mut self.device else {
             return Err(OperationError::NoController);
         };
         let taken = device.turn(given.word("ctrl"), &mut self.memory, given.word("most"))?;
-        Ok(Answer::new(alloc).number("taken", u64::from(taken))?)
+        answer.number("taken", u64::from(taken))
     }
 
-    pub(crate) fn counts(&mut self, alloc: Global, words: &[&str]) -> Answered {
-        let given = OperationArguments::read(alloc, words, &[Row::word("ctrl")])?;
+    pub(crate) fn counts(&mut self, given: &OperationArguments, answer: Answer) -> Answered {
         let counts = self.device()?.counts(given.word("ctrl"))?;
-        let answer = Answer::new(alloc)
+        answer
             .number("refusals", counts.refusals)?
-            .number("commands", counts.commands)?;
-        Ok(answer)
+            .number("commands", counts.commands)
     }
 
-    pub(crate) fn log_entry(&mut self, alloc: Global, words: &[&str]) -> Answered {
-        let given = OperationArguments::read(
-            alloc,
-            words,
-            &[Row::word("ctrl"), Row::word("index")],
-        )?;
+    pub(crate) fn log_entry(&mut self, given: &OperationArguments, answer: Answer) -> Answered {
         let entry = self
             .device()?
             .log_entry(given.word("ctrl"), given.word("index"))?;
         let mut bytes = [0xff; 64];
         entry.put(&mut bytes);
-        Ok(Answer::new(alloc).bytes("bytes", &bytes)?)
+        answer.bytes("bytes", &bytes)
     }
 
-    pub(crate) fn bring_up(&mut self, alloc: Global, words: &[&str]) -> Answered {
-        let rows = [
-            "depth",
-            "page_size",
-            "offset",
-            "list_offset",
-            "window",
-            "pace",
-        ]
-        .map(|key| Row::dword(key).optional());
-        let given = OperationArguments::read(alloc, words, &rows)?;
-        let pages = self.device()?.bring_up(alloc, geometry_in(&given))?;
-        Ok(Answer::new(alloc).number("pages", pages)?)
+    pub(crate) fn bring_up(&mut self, given: &OperationArguments, answer: Answer) -> Answered {
+        let pages = self.device()?.bring_up(answer.alloc(), geometry_in(given))?;
+        answer.number("pages", pages)
     }
 
-    pub(crate) fn admin(&mut self, alloc: Global, words: &[&str]) -> Answered {
-        let rows = [
-            Row::word("ctrl"),
-            Row::bytes("entry", 64),
-            Row::bytes("sent", MOST_SENT).optional(),
-        ];
-        let given = OperationArguments::read(alloc, words, &rows)?;
-        self.device()?.admin(alloc, &given)
+    pub(crate) fn admin(&mut self, given: &OperationArguments, answer: Answer) -> Answered {
+        self.device()?.admin(given, answer)
     }
 
-    pub(crate) fn admin_all(&mut self, alloc: Global, words: &[&str]) -> Answered {
-        let rows = [
-            Row::word("ctrl"),
-            Row::bytes("entries", 4096),
-            Row::bytes("sent", 262_144).optional(),
-        ];
-        let given = OperationArguments::read(alloc, words, &rows)?;
-        self.device()?.admin_all(alloc, &given)
+    pub(crate) fn admin_all(&mut self, given: &OperationArguments, answer: Answer) -> Answered {
+        self.device()?.admin_all(given, answer)
     }
 
-    pub(crate) fn passthrough(&mut self, alloc: Global, words: &[&str]) -> Answered {
-        let rows = [
-            Row::word("ctrl"),
-            Row::byte("opcode"),
-            Row::dword("nsid").optional(),
-            Row::dword("cdw10").optional(),
-            Row::dword("cdw11").optional(),
-            Row::dword("cdw12").optional(),
-            Row::dword("cdw13").optional(),
-            Row::dword("cdw14").optional(),
-            Row::dword("cdw15").optional(),
-            Row::bytes("data", MOST_MOVED).optional(),
-            Row::number("room", MOST_MOVED as u64).optional(),
-        ];
-        let given = OperationArguments::read(alloc, words, &rows)?;
-        self.device()?.passthrough(alloc, &given)
+    pub(crate) fn passthrough(&mut self, given: &OperationArguments, answer: Answer) -> Answered {
+        self.device()?.passthrough(given, answer)
     }
 
-    pub(crate) fn reset(&mut self, alloc: Global, words: &[&str]) -> Answered {
-        let given = OperationArguments::read(alloc, words, &[Row::word("ctrl")])?;
+    pub(crate) fn reset(&mut self, given: &OperationArguments, answer: Answer) -> Answered {
         self.device()?.reset(given.word("ctrl"))?;
-        Ok(Answer::new(alloc))
+        Ok(answer)
     }
 
-    pub(crate) fn saw(&mut self, alloc: Global, words: &[&str]) -> Answered {
-        OperationArguments::read(alloc, words, &[])?;
-        self.device()?.saw(alloc)
+    pub(crate) fn saw(&mut self, _: &OperationArguments, answer: Answer) -> Answered {
+        self.device()?.saw(answer)
     }
 }

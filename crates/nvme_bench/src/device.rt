@@ -58,34 +58,33 @@ fn entry_in(given: &OperationArguments) -> Sqe
 
 /// Sends an entry to a controller, and returns its completion and the bytes that came.
 fn pass_through(
-    alloc: Global,
     bus: &mut Watched,
     driver: &mut Driver,
     ctrl: u16,
     given: &OperationArguments,
+    answer: Answer,
 ) -> Answered
     requires ctrl { ctrl < length driver.old.pairs }
     requires device { IsDevice bus.old.machine (Some driver.old) }
     ensures { IsDevice bus.new.machine (Some driver.new) }
 {
-    let mut came = vec![in alloc; 0u8; given.qword("room") as usize]?;
+    let mut came = vec![in answer.alloc(); 0u8; given.qword("room") as usize]?;
     let data = given.bytes("data");
     let command_result = driver.passthrough(bus, ctrl, &entry_in(given), data, came.as_mut_slice());
-    let answer = Answer::new(alloc)
+    answer
         .number("status", u64::from(command_result.status.number()))?
         .number("dword0", u64::from(command_result.dword0))?
-        .bytes("bytes", came.as_slice())?;
-    Ok(answer)
+        .bytes("bytes", came.as_slice())
 }
 
 /// Sends a command to a controller, and returns its reply.
 #[tactic(auto, using(nv_driver::proofs::PassthroughLaws::room_stays))]
 fn send_command(
-    alloc: Global,
     bus: &mut Watched,
     driver: &mut Driver,
     ctrl: u16,
     command: &Command,
+    answer: Answer,
 ) -> Answered
     requires ctrl { ctrl < length driver.old.pairs }
     requires device { IsDevice bus.old.machine (Some driver.old) }
@@ -94,18 +93,18 @@ fn send_command(
     ensures { IsDevice bus.new.machine (Some driver.new) }
 {
     let mut room = AnswerRoom::new();
-    let answer = driver.admin(bus, ctrl, command, &mut room);
-    Ok(add_reply(alloc, Answer::new(alloc), &answer)?)
+    let reply = driver.admin(bus, ctrl, command, &mut room);
+    add_reply(answer, &reply)
 }
 
 /// Sends commands to a controller, and returns their replies, each after its number.
 #[tactic(auto, using(nv_driver::proofs::PassthroughLaws::room_stays))]
 fn send_commands(
-    alloc: Global,
     bus: &mut Watched,
     driver: &mut Driver,
     ctrl: u16,
     commands: &[Command],
+    mut answer: Answer,
 ) -> Answered
     requires ctrl { ctrl < length driver.old.pairs }
     requires device { IsDevice bus.old.machine (Some driver.old) }
@@ -113,13 +112,12 @@ fn send_commands(
     requires fits { All CommandFits commands.now }
     ensures { IsDevice bus.new.machine (Some driver.new) }
 {
-    let mut rooms = Vec::new(alloc);
+    let mut rooms = Vec::new(answer.alloc());
     rooms.resize_with(commands.len(), AnswerRoom::new)?;
     driver.admin_all(bus, ctrl, commands, rooms.as_mut_slice());
-    let mut answer = Answer::new(alloc);
     for (index, room) in rooms.iter().enumerate() {
         answer = answer.number("command", index as u64)?;
-        answer = add_reply(alloc, answer, &room.answer())?;
+        answer = add_reply(answer, &room.answer())?;
     }
     Ok(answer)
 }
@@ -228,7 +226,7 @@ impl DrivenDevice {
     }
 
     /// Sends an entry to a controller, and returns its completion and the bytes that came.
-    pub(crate) fn passthrough(&mut self, alloc: Global, given: &OperationArguments) -> Answered {
+    pub(crate) fn passthrough(&mut self, given: &OperationArguments, answer: Answer) -> Answered {
         let ctrl = given.word("ctrl");
         let Some(driver) = &mut self.driver else {
             return Err(OperationError::NoDriver);
@@ -236,11 +234,11 @@ impl DrivenDevice {
         if usize::from(ctrl) >= driver.controllers() {
             return Err(OperationError::NoController);
         }
-        pass_through(alloc, &mut self.bus, driver, ctrl, given)
+        pass_through(&mut self.bus, driver, ctrl, given, answer)
     }
 
     /// Sends the command of an entry to a controller, and returns its reply.
-    pub(crate) fn admin(&mut self, alloc: Global, given: &OperationArguments) -> Answered {
+    pub(crate) fn admin(&mut self, given: &OperationArguments, answer: Answer) -> Answered {
         let ctrl = given.word("ctrl");
         let Some(driver) = &mut self.driver else {
             return Err(OperationError::NoDriver);
@@ -250,11 +248,11 @@ impl DrivenDevice {
         }
         let mut place = CtrlList::new();
         let command = read_command(given.bytes("entry"), given.bytes("sent"), &mut place)?;
-        send_command(alloc, &mut self.bus, driver, ctrl, &command)
+        send_command(&mut self.bus, driver, ctrl, &command, answer)
     }
 
     /// Sends the commands of several entries to a controller, and returns their replies.
-    pub(crate) fn admin_all(&mut self, alloc: Global, given: &OperationArguments) -> Answered {
+    pub(crate) fn admin_all(&mut self, given: &OperationArguments, answer: Answer) -> Answered {
         let ctrl = given.word("ctrl");
         let Some(driver) = &mut self.driver else {
             return Err(OperationError::NoDriver);
@@ -262,10 +260,11 @@ impl DrivenDevice {
         if usize::from(ctrl) >= driver.controllers() {
             return Err(OperationError::NoController);
         }
+        let alloc = answer.alloc();
         let entries = given.bytes("entries");
         let mut places = places_for(alloc, entries)?;
         let commands = read_commands(alloc, entries, given.bytes("sent"), places.as_mut_slice())?;
-        send_commands(alloc, &mut self.bus, driver, ctrl, commands.as_slice())
+        send_commands(&mut self.bus, driver, ctrl, commands.as_slice(), answer)
     }
 
     /// Resets a controller.
@@ -280,10 +279,10 @@ impl DrivenDevice {
     }
 
     /// Answers what the bus saw of the driver, and forgets it.
-    pub(crate) fn saw(&mut self, alloc: Global) -> Answered {
+    pub(crate) fn saw(&mut self, answer: Answer) -> Answered {
         if self.driver.is_none() {
             return Err(OperationError::NoDriver);
         }
-        self.bus.tell(alloc)
+        self.bus.tell(answer)
     }
 }

@@ -11,6 +11,7 @@ mod controllers;
 mod device;
 mod error;
 mod memory;
+mod operations;
 mod records;
 mod registers;
 mod replies;

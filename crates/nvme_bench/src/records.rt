@@ -2,67 +2,59 @@
 
 use crate::answer::{Answer, Answered};
 use crate::arguments::OperationArguments;
-use crate::error::OperationError;
-use crate::row::Row;
+use crate::session::Bench;
 use nv_layout::{Cqe, CtrlList, ErrorEntry, IdCtrl, IdNs, Lbaf, NsList, Smart, Sqe, Status};
-use std::alloc::Global;
 
-/// Reads the bytes of a record, filled up with zeros.
-fn given<const N: usize>(alloc: Global, words: &[&str]) -> Result<[u8; N], OperationError> {
-    Ok(OperationArguments::read(alloc, words, &[Row::bytes("bytes", N)])?.array("bytes"))
+/// Answers the bytes of a record that is read from the bytes given, filled up with zeros.
+macro_rules! rewrite {
+    ($record:ident, $size:literal, $given:ident, $answer:ident) => {{
+        let mut bytes = [0xff; $size];
+        $record::get(&$given.array("bytes")).put(&mut bytes);
+        $answer.bytes("bytes", &bytes)
+    }};
 }
 
-/// Answers the bytes of a record.
-fn shown(alloc: Global, bytes: &[u8]) -> Answered {
-    Ok(Answer::new(alloc).bytes("bytes", bytes)?)
-}
-
-/// Rewrites a record of a queue or a log.
-pub(crate) fn rewrite_entry(alloc: Global, name: &str, words: &[&str]) -> Answered {
-    match name {
-        "sqe" => {
-            let mut bytes = [0xff; 64];
-            Sqe::get(&given(alloc, words)?).put(&mut bytes);
-            shown(alloc, &bytes)
-        }
-        "cqe" => {
-            let mut bytes = [0xff; 16];
-            Cqe::get(&given(alloc, words)?).put(&mut bytes);
-            shown(alloc, &bytes)
-        }
-        "status" => {
-            let given = OperationArguments::read(alloc, words, &[Row::word("status")])?;
-            let status = Status::from_number(given.word("status"));
-            Ok(Answer::new(alloc).number("status", u64::from(status.number()))?)
-        }
-        "error_entry" => {
-            let mut bytes = [0xff; 64];
-            ErrorEntry::get(&given(alloc, words)?).put(&mut bytes);
-            shown(alloc, &bytes)
-        }
-        "smart" => {
-            let mut bytes = [0xff; 512];
-            Smart::get(&given(alloc, words)?).put(&mut bytes);
-            shown(alloc, &bytes)
-        }
-        _ => rewrite_identity(alloc, name, words),
+impl Bench {
+    pub(crate) fn sqe(&mut self, given: &OperationArguments, answer: Answer) -> Answered {
+        rewrite!(Sqe, 64, given, answer)
     }
-}
 
-/// Rewrites a record of Identify.
-fn rewrite_identity(alloc: Global, name: &str, words: &[&str]) -> Answered {
-    let mut page = [0xff; 4096];
-    match name {
-        "lbaf" => {
-            let mut bytes = [0xff; 4];
-            Lbaf::get(&given(alloc, words)?).put(&mut bytes);
-            return shown(alloc, &bytes);
-        }
-        "id_ns" => IdNs::get(&given(alloc, words)?).put(&mut page),
-        "id_ctrl" => IdCtrl::get(&given(alloc, words)?).put(&mut page),
-        "ns_list" => NsList::get(&given(alloc, words)?).put(&mut page),
-        "ctrl_list" => CtrlList::get(&given(alloc, words)?)?.put(&mut page),
-        _ => return Err(OperationError::NoOperation),
+    pub(crate) fn cqe(&mut self, given: &OperationArguments, answer: Answer) -> Answered {
+        rewrite!(Cqe, 16, given, answer)
     }
-    shown(alloc, &page)
+
+    pub(crate) fn error_entry(&mut self, given: &OperationArguments, answer: Answer) -> Answered {
+        rewrite!(ErrorEntry, 64, given, answer)
+    }
+
+    pub(crate) fn smart(&mut self, given: &OperationArguments, answer: Answer) -> Answered {
+        rewrite!(Smart, 512, given, answer)
+    }
+
+    pub(crate) fn lbaf(&mut self, given: &OperationArguments, answer: Answer) -> Answered {
+        rewrite!(Lbaf, 4, given, answer)
+    }
+
+    pub(crate) fn id_ns(&mut self, given: &OperationArguments, answer: Answer) -> Answered {
+        rewrite!(IdNs, 4096, given, answer)
+    }
+
+    pub(crate) fn id_ctrl(&mut self, given: &OperationArguments, answer: Answer) -> Answered {
+        rewrite!(IdCtrl, 4096, given, answer)
+    }
+
+    pub(crate) fn ns_list(&mut self, given: &OperationArguments, answer: Answer) -> Answered {
+        rewrite!(NsList, 4096, given, answer)
+    }
+
+    pub(crate) fn ctrl_list(&mut self, given: &OperationArguments, answer: Answer) -> Answered {
+        let mut bytes = [0xff; 4096];
+        CtrlList::get(&given.array("bytes"))?.put(&mut bytes);
+        answer.bytes("bytes", &bytes)
+    }
+
+    pub(crate) fn status(&mut self, given: &OperationArguments, answer: Answer) -> Answered {
+        let status = Status::from_number(given.word("status"));
+        answer.number("status", u64::from(status.number()))
+    }
 }

@@ -3,58 +3,47 @@
 use crate::answer::{Answer, Answered};
 use crate::arguments::OperationArguments;
 use crate::rings::add_slots;
-use crate::row::Row;
 use crate::session::Bench;
 use nv_register::{Readiness, RegisterBank};
-use std::alloc::Global;
 
 impl Bench {
-    pub(crate) fn power_on(&mut self, alloc: Global, words: &[&str]) -> Answered {
-        OperationArguments::read(alloc, words, &[])?;
+    pub(crate) fn power_on(&mut self, _: &OperationArguments, answer: Answer) -> Answered {
         self.bank = RegisterBank::new();
-        Ok(Answer::new(alloc))
+        Ok(answer)
     }
 
-    pub(crate) fn read_bank(&self, alloc: Global, words: &[&str]) -> Answered {
-        let given = OperationArguments::read(alloc, words, &[Row::dword("offset")])?;
+    pub(crate) fn read(&mut self, given: &OperationArguments, answer: Answer) -> Answered {
         let value = self.bank.read32(given.dword("offset"));
-        Ok(Answer::new(alloc).number("value", u64::from(value))?)
+        answer.number("value", u64::from(value))
     }
 
-    pub(crate) fn write_bank(&mut self, alloc: Global, words: &[&str]) -> Answered {
-        let given = OperationArguments::read(
-            alloc,
-            words,
-            &[Row::dword("offset"), Row::dword("value")],
-        )?;
+    pub(crate) fn write(&mut self, given: &OperationArguments, answer: Answer) -> Answered {
         let (offset, value) = (given.dword("offset"), given.dword("value"));
         let resets = self.bank.stops_at(offset, value);
         self.bank.write32(offset, value);
-        Ok(Answer::new(alloc).number("resets", u64::from(resets))?)
+        answer.number("resets", u64::from(resets))
     }
 
-    pub(crate) fn registers(&self, alloc: Global, words: &[&str]) -> Answered {
-        OperationArguments::read(alloc, words, &[])?;
+    pub(crate) fn registers(&mut self, _: &OperationArguments, answer: Answer) -> Answered {
         let readiness = &self.bank.readiness;
-        let answer = Answer::new(alloc)
+        let answer = answer
             .number("enabled", u64::from(readiness.is_enabled()))?
             .number("ready", u64::from(readiness.is_ready()))?
             .number("fatal", u64::from(readiness.is_fatal()))?;
         match readiness {
             Readiness::Ready { rings, .. } => {
                 let answer = answer.number("page_size", u64::from(rings.page_size))?;
-                Ok(add_slots(answer, &rings.submission, &rings.completion)?)
+                add_slots(answer, &rings.submission, &rings.completion)
             }
             _ => Ok(answer),
         }
     }
 
     /// Sets the fatal status of a ready controller, as a turn does.
-    pub(crate) fn fail(&mut self, alloc: Global, words: &[&str]) -> Answered {
-        OperationArguments::read(alloc, words, &[])?;
+    pub(crate) fn fail(&mut self, _: &OperationArguments, answer: Answer) -> Answered {
         if let Readiness::Ready { fatal, .. } = &mut self.bank.readiness {
             *fatal = true;
         }
-        Ok(Answer::new(alloc))
+        Ok(answer)
     }
 }

@@ -6,12 +6,10 @@ ghost use Rattle.nv_queue.specs.Numbers.{IsDepth};
 use crate::answer::{Answer, Answered};
 use crate::arguments::OperationArguments;
 use crate::error::OperationError;
-use crate::row::Row;
 use crate::session::Bench;
 use nv_host::{FlatMemory, size_of_memory};
 use nv_layout::{Cqe, Sqe};
 use nv_queue::{CompletionRing, Fetch, Post, SubmitRing};
-use std::alloc::{AllocError, Global};
 use std::marker::Model;
 
 /// Both sides of both rings of a queue pair, with the places of the rings.
@@ -46,7 +44,7 @@ fn lies_in(memory: &FlatMemory, base: u64, size: u16, depth: u16) -> bool
 }
 
 /// Adds the numbers of the device's sides of rings.
-pub(crate) fn add_slots(answer: Answer, fetch: &Fetch, post: &Post) -> Result<Answer, AllocError> {
+pub(crate) fn add_slots(answer: Answer, fetch: &Fetch, post: &Post) -> Answered {
     answer
         .number("sq_head", u64::from(fetch.head()))?
         .number("sq_empty", u64::from(fetch.is_empty()))?
@@ -131,13 +129,7 @@ impl RingPair {
 }
 
 impl Bench {
-    pub(crate) fn new_rings(&mut self, alloc: Global, words: &[&str]) -> Answered {
-        let rows = [
-            Row::word("depth"),
-            Row::qword("submissions"),
-            Row::qword("completions"),
-        ];
-        let given = OperationArguments::read(alloc, words, &rows)?;
+    pub(crate) fn rings(&mut self, given: &OperationArguments, answer: Answer) -> Answered {
         let depth = given.word("depth");
         if depth < 2 || depth > 4096 {
             return Err(OperationError::Depth);
@@ -147,77 +139,66 @@ impl Bench {
             given.qword("submissions"),
             given.qword("completions"),
         );
-        Ok(Answer::new(alloc))
+        Ok(answer)
     }
 
-    pub(crate) fn renew_rings(&mut self, alloc: Global, words: &[&str]) -> Answered {
-        OperationArguments::read(alloc, words, &[])?;
+    pub(crate) fn renew(&mut self, _: &OperationArguments, answer: Answer) -> Answered {
         self.rings.renew();
-        Ok(Answer::new(alloc))
+        Ok(answer)
     }
 
-    pub(crate) fn zero(&mut self, alloc: Global, words: &[&str]) -> Answered {
-        OperationArguments::read(alloc, words, &[])?;
+    pub(crate) fn zero(&mut self, _: &OperationArguments, answer: Answer) -> Answered {
         self.rings.zero(&mut self.memory)?;
-        Ok(Answer::new(alloc))
+        Ok(answer)
     }
 
-    pub(crate) fn submit(&mut self, alloc: Global, words: &[&str]) -> Answered {
-        let given = OperationArguments::read(alloc, words, &[Row::bytes("entry", 64)])?;
+    pub(crate) fn submit(&mut self, given: &OperationArguments, answer: Answer) -> Answered {
         let entry = Sqe::get(&given.array("entry"));
         let tail = self.rings.submit(&mut self.memory, &entry)?;
-        Ok(Answer::new(alloc).number("tail", u64::from(tail))?)
+        answer.number("tail", u64::from(tail))
     }
 
-    pub(crate) fn tail(&mut self, alloc: Global, words: &[&str]) -> Answered {
-        let given = OperationArguments::read(alloc, words, &[Row::dword("tail")])?;
+    pub(crate) fn tail(&mut self, given: &OperationArguments, answer: Answer) -> Answered {
         self.rings.fetch.tail(given.dword("tail"));
-        Ok(Answer::new(alloc))
+        Ok(answer)
     }
 
-    pub(crate) fn take(&mut self, alloc: Global, words: &[&str]) -> Answered {
-        OperationArguments::read(alloc, words, &[])?;
+    pub(crate) fn take(&mut self, _: &OperationArguments, answer: Answer) -> Answered {
         let mut bytes = [0xff; 64];
         self.rings.take(&self.memory)?.put(&mut bytes);
-        Ok(Answer::new(alloc).bytes("bytes", &bytes)?)
+        answer.bytes("bytes", &bytes)
     }
 
-    pub(crate) fn post(&mut self, alloc: Global, words: &[&str]) -> Answered {
-        let given = OperationArguments::read(alloc, words, &[Row::bytes("completion", 16)])?;
+    pub(crate) fn post(&mut self, given: &OperationArguments, answer: Answer) -> Answered {
         let completion = Cqe::get(&given.array("completion"));
         self.rings.post(&mut self.memory, completion)?;
-        Ok(Answer::new(alloc))
+        Ok(answer)
     }
 
-    pub(crate) fn collect(&mut self, alloc: Global, words: &[&str]) -> Answered {
-        OperationArguments::read(alloc, words, &[])?;
+    pub(crate) fn collect(&mut self, _: &OperationArguments, answer: Answer) -> Answered {
         let mut bytes = [0xff; 16];
         self.rings.collect(&self.memory)?.put(&mut bytes);
-        Ok(Answer::new(alloc).bytes("bytes", &bytes)?)
+        answer.bytes("bytes", &bytes)
     }
 
-    pub(crate) fn free(&mut self, alloc: Global, words: &[&str]) -> Answered {
-        let given = OperationArguments::read(alloc, words, &[Row::word("head")])?;
+    pub(crate) fn free(&mut self, given: &OperationArguments, answer: Answer) -> Answered {
         self.rings.free(given.word("head"))?;
-        Ok(Answer::new(alloc))
+        Ok(answer)
     }
 
-    pub(crate) fn tell(&mut self, alloc: Global, words: &[&str]) -> Answered {
-        OperationArguments::read(alloc, words, &[])?;
+    pub(crate) fn tell(&mut self, _: &OperationArguments, answer: Answer) -> Answered {
         match self.rings.collect.head_to_tell() {
-            Some(head) => Ok(Answer::new(alloc).number("head", u64::from(head))?),
+            Some(head) => answer.number("head", u64::from(head)),
             None => Err(OperationError::NoHead),
         }
     }
 
-    pub(crate) fn head(&mut self, alloc: Global, words: &[&str]) -> Answered {
-        let given = OperationArguments::read(alloc, words, &[Row::dword("head")])?;
+    pub(crate) fn head(&mut self, given: &OperationArguments, answer: Answer) -> Answered {
         self.rings.post.head(given.dword("head"));
-        Ok(Answer::new(alloc))
+        Ok(answer)
     }
 
-    pub(crate) fn slots(&self, alloc: Global, words: &[&str]) -> Answered {
-        OperationArguments::read(alloc, words, &[])?;
-        Ok(add_slots(Answer::new(alloc), &self.rings.fetch, &self.rings.post)?)
+    pub(crate) fn slots(&mut self, _: &OperationArguments, answer: Answer) -> Answered {
+        add_slots(answer, &self.rings.fetch, &self.rings.post)
     }
 }

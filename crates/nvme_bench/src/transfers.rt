@@ -8,21 +8,20 @@ use crate::conditions::{
     are_distinct, bytes_in, has_page, has_pages, holds_all, is_length, is_offset, lie_in,
 };
 use crate::error::OperationError;
-use crate::row::{MOST_MOVED, Row};
 use crate::session::Bench;
 use nv_host::{FlatMemory, PageNo, PagedMemory, size_of_memory};
 use nv_prp::{Buffer, ListPlace, Spans, build, copy_in, copy_out, walk};
 use std::alloc::{AllocError, Global};
 
 /// Answers the addresses and the lengths of spans.
-fn shown(alloc: Global, spans: &Spans) -> Answered {
+fn shown(answer: Answer, spans: &Spans) -> Answered {
+    let alloc = answer.alloc();
     let spans = spans.as_slice();
     let addresses: Vec<u64> = spans.iter().map(|span| span.address).collect(alloc)?;
     let lengths: Vec<u64> = spans.iter().map(|span| u64::from(span.len)).collect(alloc)?;
-    let answer = Answer::new(alloc)
+    answer
         .numbers("addresses", addresses.as_slice())?
-        .numbers("lengths", lengths.as_slice())?;
-    Ok(answer)
+        .numbers("lengths", lengths.as_slice())
 }
 
 /// Returns the pages of a list, and then those of a buffer.
@@ -90,16 +89,7 @@ fn spread_buffer(
 }
 
 impl Bench {
-    pub(crate) fn build(&mut self, alloc: Global, words: &[&str]) -> Answered {
-        let rows = [
-            Row::pages(),
-            Row::dword("offset").optional(),
-            Row::dword("first"),
-            Row::dword("second"),
-            Row::dword("list_offset").optional(),
-            Row::dword("length"),
-        ];
-        let given = OperationArguments::read(alloc, words, &rows)?;
+    pub(crate) fn build(&mut self, given: &OperationArguments, answer: Answer) -> Answered {
         let buffer = Buffer {
             pages: given.pages(),
             offset: given.dword("offset"),
@@ -110,32 +100,21 @@ impl Bench {
             offset: given.dword("list_offset"),
         };
         let len = given.dword("length");
-        let (prp1, prp2) = build_entries(alloc, &mut self.memory, &buffer, &list, len)?;
-        let answer = Answer::new(alloc)
-            .number("prp1", prp1)?
-            .number("prp2", prp2)?;
-        Ok(answer)
+        let (prp1, prp2) = build_entries(answer.alloc(), &mut self.memory, &buffer, &list, len)?;
+        answer.number("prp1", prp1)?.number("prp2", prp2)
     }
 
-    pub(crate) fn walk(&mut self, alloc: Global, words: &[&str]) -> Answered {
-        let rows = [Row::qword("prp1"), Row::qword("prp2"), Row::dword("length")];
-        let given = OperationArguments::read(alloc, words, &rows)?;
+    pub(crate) fn walk(&mut self, given: &OperationArguments, answer: Answer) -> Answered {
         let len = given.dword("length");
         if !is_length(len) {
             return Err(OperationError::Length);
         }
         let (prp1, prp2) = (given.qword("prp1"), given.qword("prp2"));
         walk(&self.memory, prp1, prp2, len, &mut self.spans)?;
-        shown(alloc, &self.spans)
+        shown(answer, &self.spans)
     }
 
-    pub(crate) fn spread(&mut self, alloc: Global, words: &[&str]) -> Answered {
-        let rows = [
-            Row::pages(),
-            Row::dword("offset").optional(),
-            Row::dword("length"),
-        ];
-        let given = OperationArguments::read(alloc, words, &rows)?;
+    pub(crate) fn spans(&mut self, given: &OperationArguments, answer: Answer) -> Answered {
         let buffer = Buffer {
             pages: given.pages(),
             offset: given.dword("offset"),
@@ -146,11 +125,10 @@ impl Bench {
             given.dword("length"),
             &mut self.spans,
         )?;
-        shown(alloc, &self.spans)
+        shown(answer, &self.spans)
     }
 
-    pub(crate) fn copy_out(&mut self, alloc: Global, words: &[&str]) -> Answered {
-        let given = OperationArguments::read(alloc, words, &[Row::bytes("bytes", MOST_MOVED)])?;
+    pub(crate) fn copy_out(&mut self, given: &OperationArguments, answer: Answer) -> Answered {
         let bytes = given.bytes("bytes");
         if !lie_in(self.spans.as_slice(), size_of_memory(&self.memory)) {
             return Err(OperationError::SpansOutside);
@@ -159,16 +137,15 @@ impl Bench {
             return Err(OperationError::SpansLength);
         }
         copy_out(&mut self.memory, &self.spans, bytes);
-        Ok(Answer::new(alloc))
+        Ok(answer)
     }
 
-    pub(crate) fn copy_in(&self, alloc: Global, words: &[&str]) -> Answered {
-        OperationArguments::read(alloc, words, &[])?;
+    pub(crate) fn copy_in(&mut self, _: &OperationArguments, answer: Answer) -> Answered {
         if !lie_in(self.spans.as_slice(), size_of_memory(&self.memory)) {
             return Err(OperationError::SpansOutside);
         }
-        let mut bytes = vec![in alloc; 0u8; bytes_in(&self.spans) as usize]?;
+        let mut bytes = vec![in answer.alloc(); 0u8; bytes_in(&self.spans) as usize]?;
         copy_in(&self.memory, &self.spans, bytes.as_mut_slice());
-        Ok(Answer::new(alloc).bytes("bytes", bytes.as_slice())?)
+        answer.bytes("bytes", bytes.as_slice())
     }
 }

@@ -103,13 +103,13 @@ impl Watched {
     }
 
     /// Answers what was seen, and forgets it.
-    pub(crate) fn tell(&mut self, alloc: Global) -> Answered
+    pub(crate) fn tell(&mut self, answer: Answer) -> Answered
         ensures { self.new.machine ≡ self.old.machine }
     {
         if !self.is_whole || !self.entries.is_whole {
             return Err(OperationError::Memory(AllocError));
         }
-        let answer = Answer::new(alloc)
+        let answer = answer
             .numbers("writes", self.writes.as_slice())?
             .numbers("turns", self.turns.as_slice())?
             .bytes("entries", self.entries.bytes.as_slice())?
