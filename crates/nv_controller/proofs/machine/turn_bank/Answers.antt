@@ -11,7 +11,8 @@ returns-in-Ready-clause-turn g c =
 pub returns-in-Ready-clause-count : goal.returns-in-Ready-clause-count
 returns-in-Ready-clause-count g c =
     bank_turn_count _ _ _ _
-    (site (untagged c.args.subsystem.now) c.args.bank.now (g.M.PagedMemory.bytes c.args.mem.now)) _ (returns-in-Ready-clause-turn g c)
+    (site (untagged c.args.subsystem.now) c.args.bank.now (g.M.PagedMemory.bytes c.args.mem.now))
+    _ (returns-in-Ready-clause-turn g c)
 
 pub returns-in-Ready-clause-tagged : goal.returns-in-Ready-clause-tagged
 returns-in-Ready-clause-tagged g c =
