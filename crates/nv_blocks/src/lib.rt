@@ -32,8 +32,6 @@ mod execute;
 mod ranges;
 mod refusal;
 mod terms;
-#[cfg(test)]
-mod tests;
 mod turns;
 mod zeroing;
 

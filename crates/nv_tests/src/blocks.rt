@@ -2,8 +2,8 @@
 
 ghost use Rattle.std.specs.Prelude.{◌<◌};
 
-use crate::{Namespace, Stop, Terms, turn};
 use byteorder::{ByteOrder, LittleEndian};
+use nv_blocks::{Namespace, Stop, Terms, turn};
 use nv_host::{FlatMemory, PagedMemory};
 use nv_queue::{Fetch, Post};
 use std::process::Abort;
