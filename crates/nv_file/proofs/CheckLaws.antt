@@ -1,9 +1,9 @@
 -- The first check that fails, of checks one after the other.
-use Rattle.std.proofs.Common.{◌≡◌, ◌∙◌, inl, inr, Bool, true, false, if◌then◌else◌, List, [], ◌∷◌, ◌++◌, Option, Some}
-use Rattle.std.proofs.Common.{None, IfSome, Result, Ok, Err, refl, subst, sym, ap}
+use Rattle.std.proofs.Common.{◌≡◌, ◌∙◌, ◌⊎◌, inl, inr, Bool, true, false, if◌then◌else◌, List, [], ◌∷◌, ◌++◌, Option}
+use Rattle.std.proofs.Common.{Some, None, Result, Ok, Err, refl, sym, ap}
 use Rattle.nv_file.specs.Check.{Check, check, checked, first_error}
 use Rattle.nv_layout.specs.UnlessMemory.{IsUnlessMemory}
-use Rattle.nv_file.proofs.Words.{IsCheckedUnlessMemory, IsFirstFault, Memory, option_map_or, SubsystemError}
+use Rattle.nv_file.proofs.Words.{IsCheckedBeforeMemory, IsCheckedUnlessMemory, Memory, option_map_or, SubsystemError}
 
 -- the first of two faults, or else the second
 abbrev pub or_else : Option SubsystemError → Option SubsystemError → Option SubsystemError
@@ -44,22 +44,27 @@ fails_first cs ds e fails = faults_append cs ds ∙ ap (λ f. or_else f (first_e
 
 pub ruleset faults = (faults_append, faults_none, fault_of)
 
--- if a value was returned, no check failed whose fault is returned regardless of memory
-none_by : {X : Type 0} (o : Option SubsystemError) (r : Result X SubsystemError) (x : X) → r ≡ Ok x
-    → IfSome o (λ e. r ≡ Err e) → o ≡ None
-none_by None r x is fault = refl
-none_by (Some e) r x is fault = absurd (cc)
-
-pub no_fault : {X : Type 0} (checks : List Check) (r : Result X SubsystemError) (x : X) → r ≡ Ok x
-    → IsFirstFault checks r → first_error checks ≡ None
-no_fault checks r x is fault = none_by (first_error checks) r x is fault
-
--- there is no error if no check fails
-pub fault_none : {X : Type 0} (checks : List Check) (r : Result X SubsystemError) → first_error checks ≡ None
-    → IsFirstFault checks r
-fault_none checks r none = subst (λ o. IfSome o (λ e. r ≡ Err e)) (sym none) tt
-
 -- ---- the same as a result
+
+-- memory ran out, or there is the fault, whatever was checked before memory ran out
+pub memory_or_fault : {M F C : Type 0} → (M × F) ⊎ C → M ⊎ C
+memory_or_fault (inl memory) = inl memory.0
+memory_or_fault (inr fault) = inr fault
+
+-- what is checked before memory can run out is checked unless memory runs out
+pub unless_memory : {X Y : Type 0} (view : X → Y) (first checks : List Check) (value : Y)
+    (r : Result X SubsystemError) → IsCheckedBeforeMemory view first checks value r
+    → IsCheckedUnlessMemory view checks value r
+unless_memory view first checks value (Ok x) h = (h.0, h.1.0)
+unless_memory view first checks value (Err e) h = memory_or_fault h
+
+-- a fault of the first checks is returned, regardless of memory
+pub first_fault : {X Y : Type 0} (view : X → Y) (first checks : List Check) (value : Y)
+    (r : Result X SubsystemError) (e : SubsystemError) → first_error first ≡ Some e → first_error checks ≡ Some e
+    → IsCheckedBeforeMemory view first checks value r → r ≡ Err e
+first_fault view first checks value (Ok x) e fails is h = absurd (cc (is, h.0))
+first_fault view first checks value (Err d) e fails is (inl memory) = absurd (cc (fails, memory.1))
+first_fault view first checks value (Err d) e fails is (inr fault) = cc (is, fault)
 
 -- a result that is checked, unless memory ran out, is the value or the first fault, unless memory ran out
 pub answers : {X Y : Type 0} (view : X → Y) (checks : List Check) (value : Y) (r : Result X SubsystemError)

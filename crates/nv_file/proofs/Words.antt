@@ -11,7 +11,7 @@ pub use Rattle.nv_file.specs.declared.error.SubsystemError.TheVariants.{Kind, Me
 pub use Rattle.nv_file.specs.declared.key.Key.{Key}
 pub use Rattle.nv_file.specs.declared.namespace.NamespaceEntry.{NamespaceEntry}
 pub use Rattle.nv_file.specs.declared.table_name.TableName.{TableName}
-pub use Rattle.nv_file.specs.inner.Reading.{IsCheckedUnlessMemory, IsPassed, IsFirstFault}
+pub use Rattle.nv_file.specs.inner.Reading.{IsCheckedBeforeMemory, IsCheckedUnlessMemory, IsPassed}
 pub use Rattle.nv_file.specs.inner.SectionView.{tables_view}
 pub use Rattle.nv_model.proofs.MappedLaws.{list_any-map}
 pub use Rattle.nv_model.specs.Ranges.{IsFeatureRule, IsFormat}

@@ -8,7 +8,7 @@ ghost use Rattle.nv_file.specs.TableChecks.{default_over, defaults_checks, defau
 ghost use Rattle.nv_file.specs.TableChecks.{nine, thresholds, thresholds_at};
 ghost use Rattle.nv_file.specs.inner.FirstChecks.{first_defaults_checks};
 ghost use Rattle.nv_file.specs.KeyChecks.{number_at, of_kind};
-ghost use Rattle.nv_file.specs.inner.Reading.{IsCheckedUnlessMemory, IsFirstFault};
+ghost use Rattle.nv_file.specs.inner.Reading.{IsCheckedBeforeMemory};
 
 use crate::error::SubsystemError;
 use crate::key::Key;
@@ -47,10 +47,10 @@ fn thresholds_or(
 ) -> Result<[u16; 9], SubsystemError>
     requires fid { fid ≡ fid_of (table_view table.now) }
     requires default { AreThresholds default }
-    ensures exact { IsCheckedUnlessMemory (λ n. n) (thresholds key (table_view table.now))
+    ensures exact { IsCheckedBeforeMemory (λ n. n)
+        (of_kind TableName.Feature key as_array (table_view table.now))
+        (thresholds key (table_view table.now))
         (thresholds_at key default (table_view table.now)) result }
-    ensures fault { IsFirstFault
-        (of_kind TableName.Feature key as_array (table_view table.now)) result }
     ensures sound { IfOk result AreThresholds }
 {
     let section = Section {
@@ -88,9 +88,10 @@ pub(crate) fn defaults_of(
     requires default { value ≡ number_at Key.Default 0 (table_view table.now) }
     requires value { IsSomeAnd (feature_of fid) (λ f. is_value f value ≡ true) }
     requires in_version { not ((version == 1) && (fid == 0x04)) ≡ true }
-    ensures exact { IsCheckedUnlessMemory (λ d. d) (defaults_checks version (table_view table.now))
+    ensures exact { IsCheckedBeforeMemory (λ d. d)
+        (first_defaults_checks version (table_view table.now))
+        (defaults_checks version (table_view table.now))
         (defaults_value wctemp (table_view table.now)) result }
-    ensures fault { IsFirstFault (first_defaults_checks version (table_view table.now)) result }
     ensures sound { IfOk result AreDefaults }
     ensures lists { IfOk result (λ d. are_lists d ≡ (fid == 0x04)) }
     ensures values { IfOk result (λ d. IsSomeAnd (feature_of fid)

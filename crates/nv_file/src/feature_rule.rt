@@ -7,7 +7,7 @@ ghost use Rattle.nv_file.specs.KeyChecks.{each, has_key, in_limits, is_among};
 ghost use Rattle.nv_file.specs.TableChecks.{feature_checks, feature_value, fid_of};
 ghost use Rattle.nv_file.specs.TableChecks.{first_feature_checks};
 ghost use Rattle.nv_file.specs.inner.FirstChecks.{first_defaults_checks};
-ghost use Rattle.nv_file.specs.inner.Reading.{IsChecked, IsCheckedUnlessMemory, IsFirstFault};
+ghost use Rattle.nv_file.specs.inner.Reading.{IsChecked, IsCheckedBeforeMemory, IsCheckedUnlessMemory};
 ghost use Rattle.nv_file.specs.inner.SectionView.{tables_view};
 ghost use Rattle.nv_model.specs.Ranges.{IsFeatureRule};
 
@@ -71,12 +71,11 @@ fn feature_of(
     before: &[FeatureRule],
     table: &Table,
 ) -> Result<FeatureRule, SubsystemError>
-    ensures exact { IsCheckedUnlessMemory (λ r. r)
+    ensures exact { IsCheckedBeforeMemory (λ r. r)
+        (first_feature_checks version (map (λ r. r.fid) before.now) (table_view table.now)
+        ++ first_defaults_checks version (table_view table.now))
         (feature_checks version (map (λ r. r.fid) before.now) (table_view table.now))
         (feature_value wctemp (table_view table.now)) result }
-    ensures fault { IsFirstFault
-        (first_feature_checks version (map (λ r. r.fid) before.now) (table_view table.now)
-        ++ first_defaults_checks version (table_view table.now)) result }
     ensures sound { IfOk result IsFeatureRule }
     ensures new { IfOk result (λ r. is_among (map (λ s. s.fid) before.now) r.fid ≡ false) }
 {

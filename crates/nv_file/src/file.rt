@@ -10,7 +10,7 @@ ghost use Rattle.nv_layout.specs.UnlessMemory.{IsUnlessMemory};
 ghost use Rattle.nv_file.specs.FileValue.{file_view};
 ghost use Rattle.nv_file.specs.File.{IsBlankText, document, file, file_checks, file_value};
 ghost use Rattle.nv_file.specs.File.{first_top_checks, no_version};
-ghost use Rattle.nv_file.specs.inner.Reading.{IsAnswer, IsCheckedUnlessMemory, IsFirstFault};
+ghost use Rattle.nv_file.specs.inner.Reading.{IsAnswer, IsCheckedBeforeMemory};
 ghost use Rattle.nv_file.specs.IsFile.{IsFile};
 
 use crate::attachment::attaches;
@@ -90,11 +90,8 @@ fn fits(tnvmcap: u64, namespaces: &[NamespaceEntry]) -> bool
 
 #[tactic(auto, using(crate::proofs::Fused::file_laws), unfolding(crate::proofs::Opens::file))]
 fn file_of(alloc: Global, table: &Table) -> Result<File, SubsystemError>
-    ensures exact { IsCheckedUnlessMemory file_view (file_checks (table_view table.now))
-        (file_value (table_view table.now)) result }
-    ensures fault { IsFirstFault (first_top_checks (table_view table.now)) result }
-    ensures empty { table_view table.now ≡ no_members
-        → result ≡ Err no_version }
+    ensures exact { IsCheckedBeforeMemory file_view (first_top_checks (table_view table.now))
+        (file_checks (table_view table.now)) (file_value (table_view table.now)) result }
     ensures sound { IfOk result (λ f. IsFile (file_view f)) }
 {
     let top = top_of(alloc, table)?;

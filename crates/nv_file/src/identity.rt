@@ -5,7 +5,7 @@ ghost use Rattle.toml.specs.View.{table_view};
 ghost use Rattle.nv_model.specs.IdentityView.{identity_view};
 ghost use Rattle.nv_file.specs.TableChecks.{first_identity_checks, identity_checks, identity_value};
 ghost use Rattle.nv_file.specs.TableChecks.{numbers_checks, numbers_value};
-ghost use Rattle.nv_file.specs.inner.Reading.{IsChecked, IsCheckedUnlessMemory, IsFirstFault};
+ghost use Rattle.nv_file.specs.inner.Reading.{IsChecked, IsCheckedBeforeMemory};
 ghost use Rattle.nv_model.specs.Ranges.{IsIdentityNumbers, IsIdentity};
 
 use crate::controller::ControllerEntry;
@@ -64,12 +64,10 @@ pub(crate) fn identity_of(
     before: &[ControllerEntry],
     table: &Table,
 ) -> Result<Identity, SubsystemError>
-    ensures exact { IsCheckedUnlessMemory identity_view
+    ensures exact { IsCheckedBeforeMemory identity_view
+        (first_identity_checks (map (λ c. c.identity.cntlid) before.now) (table_view table.now))
         (identity_checks (map (λ c. c.identity.cntlid) before.now) (table_view table.now))
         (identity_value (table_view table.now)) result }
-    ensures fault { IsFirstFault
-        (first_identity_checks (map (λ c. c.identity.cntlid) before.now) (table_view table.now))
-        result }
     ensures sound { IfOk result (λ i. IsIdentity (identity_view i)) }
     ensures new { IfOk result
         (λ i. is_among (map (λ c. c.identity.cntlid) before.now) i.cntlid ≡ false) }

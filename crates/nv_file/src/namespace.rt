@@ -10,7 +10,7 @@ ghost use Rattle.nv_model.specs.Ranges.{IsFormat};
 ghost use Rattle.nv_file.specs.KeyChecks.{each, in_limits, is_among, of_kind};
 ghost use Rattle.nv_file.specs.TableChecks.{first_namespace_checks, namespace_checks};
 ghost use Rattle.nv_file.specs.TableChecks.{namespace_value, nsid_of};
-ghost use Rattle.nv_file.specs.inner.Reading.{IsChecked, IsCheckedUnlessMemory, IsFirstFault};
+ghost use Rattle.nv_file.specs.inner.Reading.{IsChecked, IsCheckedBeforeMemory, IsCheckedUnlessMemory};
 ghost use Rattle.nv_file.specs.IsFile.{IsNamespaceEntry};
 
 use crate::error::{SubsystemError, ensure};
@@ -89,13 +89,12 @@ fn namespace_entry_of(
     table: &Table,
 ) -> Result<NamespaceEntry, SubsystemError>
     requires { All IsFormat formats.now }
-    ensures exact { IsCheckedUnlessMemory namespace_entry_view
-        (namespace_checks nn mc formats.now (map (λ n. n.nsid) before.now) (table_view table.now))
-        (namespace_value (table_view table.now)) result }
-    ensures fault { IsFirstFault
+    ensures exact { IsCheckedBeforeMemory namespace_entry_view
         (first_namespace_checks nn mc formats.now (map (λ n. n.nsid) before.now)
         (table_view table.now)
-        ++ of_kind TableName.Namespace Key.Controllers as_array (table_view table.now)) result }
+        ++ of_kind TableName.Namespace Key.Controllers as_array (table_view table.now))
+        (namespace_checks nn mc formats.now (map (λ n. n.nsid) before.now) (table_view table.now))
+        (namespace_value (table_view table.now)) result }
     ensures sound { IfOk result (λ n. IsNamespaceEntry nn mc formats.now (namespace_entry_view n)) }
     ensures new { IfOk result (λ n. is_among (map (λ m. m.nsid) before.now) n.nsid ≡ false) }
 {

@@ -11,8 +11,8 @@ ghost use Rattle.nv_file.specs.Check.{check};
 ghost use Rattle.nv_file.specs.KeyChecks as row;
 ghost use Rattle.nv_file.specs.KeyChecks.{has_key, has_only, is_within, number};
 ghost use Rattle.nv_file.specs.Names.{key_text, keys_of};
-ghost use Rattle.nv_file.specs.inner.Reading.{IsChecked, IsCheckedUnlessMemory, IsPassed};
-ghost use Rattle.nv_file.specs.inner.Reading.{IsFirstFault};
+ghost use Rattle.nv_file.specs.inner.Reading.{IsChecked, IsCheckedBeforeMemory};
+ghost use Rattle.nv_file.specs.inner.Reading.{IsCheckedUnlessMemory, IsPassed};
 ghost use Rattle.nv_file.specs.inner.SectionView.{tables_view};
 ghost use Rattle.nv_model.specs.Ranges.{is_text};
 
@@ -175,11 +175,9 @@ impl<'a> Section<'a> {
         key: Key,
         most: usize,
     ) -> Result<String, SubsystemError>
-        ensures exact { IsCheckedUnlessMemory string_bytes
-            (row.text self.now.name key most (table_view self.now.table.now))
+        ensures exact { let checks = row.text self.now.name key most (table_view self.now.table.now)
+            in IsCheckedBeforeMemory string_bytes checks checks
             (row.text_at key (table_view self.now.table.now)) result }
-        ensures fault { IsFirstFault
-            (row.text self.now.name key most (table_view self.now.table.now)) result }
         ensures sound { IfOk result (λ s. is_text most (string_bytes s) ≡ true) }
     {
         let value = self.find(key).ok_or(self.missing(key))?;
@@ -199,12 +197,10 @@ impl<'a> Section<'a> {
         key: Key,
         value: &'a Value,
     ) -> Result<Vec<&'a Table>, SubsystemError>
-        ensures exact { IsCheckedUnlessMemory (λ v. tables_view v.items)
+        ensures { IsCheckedBeforeMemory (λ v. tables_view v.items)
+            (check (is_some (as_array (view value.now))) (SubsystemError.Kind self.now.name key))
             (check (is_some (row.as_tables (view value.now))) (SubsystemError.Kind self.now.name key))
             (unwrap_or (row.as_tables (view value.now)) []) result }
-        ensures fault { IsFirstFault
-            (check (is_some (as_array (view value.now))) (SubsystemError.Kind self.now.name key))
-            result }
     {
         let items: &[Value] = value.as_array().ok_or(self.wrong_kind(key))?;
         let mut tables = Vec::new(alloc);
@@ -278,12 +274,10 @@ impl<'a> Section<'a> {
         key: Key,
         value: &Value,
     ) -> Result<Vec<i64>, SubsystemError>
-        ensures exact { IsCheckedUnlessMemory (λ v. v.items)
+        ensures { IsCheckedBeforeMemory (λ v. v.items)
+            (check (is_some (as_array (view value.now))) (SubsystemError.Kind self.now.name key))
             (check (is_some (row.as_integers (view value.now))) (SubsystemError.Kind self.now.name key))
             (unwrap_or (row.as_integers (view value.now)) []) result }
-        ensures fault { IsFirstFault
-            (check (is_some (as_array (view value.now))) (SubsystemError.Kind self.now.name key))
-            result }
     {
         let values: &[Value] = value.as_array().ok_or(self.wrong_kind(key))?;
         let mut integers = Vec::new(alloc);
@@ -300,11 +294,10 @@ impl<'a> Section<'a> {
         alloc: Global,
         key: Key,
     ) -> Result<Vec<i64>, SubsystemError>
-        ensures exact { IsCheckedUnlessMemory (λ v. v.items)
+        ensures { IsCheckedBeforeMemory (λ v. v.items)
+            (row.of_kind self.now.name key as_array (table_view self.now.table.now))
             (row.of_kind self.now.name key row.as_integers (table_view self.now.table.now))
             (row.integers_at key (table_view self.now.table.now)) result }
-        ensures fault { IsFirstFault
-            (row.of_kind self.now.name key as_array (table_view self.now.table.now)) result }
     {
         let Some(value) = self.find(key) else {
             return Ok(Vec::new(alloc));
@@ -352,11 +345,10 @@ impl<'a> Section<'a> {
         most: usize,
         high: u16,
     ) -> Result<Vec<u16>, SubsystemError>
-        ensures exact { IsCheckedUnlessMemory (λ v. v.items)
+        ensures { IsCheckedBeforeMemory (λ v. v.items)
+            (row.of_kind self.now.name key as_array (table_view self.now.table.now))
             (row.optional_list self.now.name key most high (table_view self.now.table.now))
             (map number (row.integers_at key (table_view self.now.table.now))) result }
-        ensures fault { IsFirstFault
-            (row.of_kind self.now.name key as_array (table_view self.now.table.now)) result }
     {
         let integers = self.integers_or_none(alloc, key)?;
         self.in_limits(key, integers.len() <= most)?;

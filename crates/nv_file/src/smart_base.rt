@@ -5,7 +5,7 @@ ghost use Rattle.nv_file.specs.KeyChecks.{of_kind};
 ghost use Rattle.nv_file.specs.TableChecks.{counters_checks, counters_value, eight, first_smart_checks};
 ghost use Rattle.nv_file.specs.TableChecks.{smart_checks, smart_value};
 ghost use Rattle.toml.specs.Data.{as_array, no_members};
-ghost use Rattle.nv_file.specs.inner.Reading.{IsChecked, IsCheckedUnlessMemory, IsFirstFault};
+ghost use Rattle.nv_file.specs.inner.Reading.{IsChecked, IsCheckedBeforeMemory, IsCheckedUnlessMemory};
 ghost use Rattle.nv_model.specs.Logs.{zero_smart};
 ghost use Rattle.nv_model.specs.Ranges.{IsCounters, IsSmart};
 
@@ -74,10 +74,10 @@ fn eight(numbers: &[u16]) -> [u16; 8]
 
 #[tactic(auto, using(crate::proofs::CheckLaws::faults), unfolding(crate::proofs::Opens::whole))]
 fn smart_of(alloc: Global, table: &Table) -> Result<SmartBase, SubsystemError>
-    ensures exact { IsCheckedUnlessMemory (λ s. s) (smart_checks (table_view table.now))
-        (smart_value (table_view table.now)) result }
-    ensures fault { IsFirstFault (first_smart_checks (table_view table.now)
-        ++ of_kind TableName.Smart Key.Sensors as_array (table_view table.now)) result }
+    ensures exact { IsCheckedBeforeMemory (λ s. s)
+        (first_smart_checks (table_view table.now)
+        ++ of_kind TableName.Smart Key.Sensors as_array (table_view table.now))
+        (smart_checks (table_view table.now)) (smart_value (table_view table.now)) result }
     ensures sound { IfOk result IsSmart }
 {
     let section = Section {

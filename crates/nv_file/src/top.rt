@@ -1,9 +1,8 @@
 //! The top table of a file.
-ghost use Rattle.std.specs.Prelude.{◌≡◌, IfOk};
-ghost use Rattle.toml.specs.Data.{no_members};
+ghost use Rattle.std.specs.Prelude.{IfOk};
 ghost use Rattle.toml.specs.View.{table_view};
-ghost use Rattle.nv_file.specs.File.{first_top_checks, no_version, top_checks};
-ghost use Rattle.nv_file.specs.inner.Reading.{IsCheckedUnlessMemory, IsFirstFault};
+ghost use Rattle.nv_file.specs.File.{first_top_checks, top_checks};
+ghost use Rattle.nv_file.specs.inner.Reading.{IsCheckedBeforeMemory};
 ghost use Rattle.nv_file.specs.inner.TopView.{top_value, top_view};
 ghost use Rattle.nv_file.specs.inner.IsFile.{IsTop};
 
@@ -29,12 +28,10 @@ pub struct Top<'a> {
 }
 
 /// What the top table holds.
-#[tactic(auto, using(crate::proofs::EmptyTables::top_laws), unfolding(crate::specs::File::top_checks))]
+#[tactic(auto, using(crate::proofs::CheckLaws::faults), unfolding(crate::specs::File::top_checks))]
 pub(crate) fn top_of<'a>(alloc: Global, table: &'a Table) -> Result<Top<'a>, SubsystemError>
-    ensures exact { IsCheckedUnlessMemory top_view (top_checks (table_view table.now))
-        (top_value (table_view table.now)) result }
-    ensures fault { IsFirstFault (first_top_checks (table_view table.now)) result }
-    ensures empty { table_view table.now ≡ no_members → result ≡ Err no_version }
+    ensures exact { IsCheckedBeforeMemory top_view (first_top_checks (table_view table.now))
+        (top_checks (table_view table.now)) (top_value (table_view table.now)) result }
     ensures sound { IfOk result (λ t. IsTop (top_view t)) }
 {
     let section = Section {

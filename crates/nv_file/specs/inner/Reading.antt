@@ -1,5 +1,5 @@
 -- The result of reading, by the checks of what is read and by what it holds.
-use Rattle.std.specs.Prelude.{◌≡◌, ◌⊎◌, List, None, Some, IfSome, Result, Ok, Err}
+use Rattle.std.specs.Prelude.{◌≡◌, ◌⊎◌, List, None, Some, Result, Ok, Err}
 use Rattle.nv_file.specs.declared.error.SubsystemError.{SubsystemError}
 use Rattle.nv_file.specs.declared.error.SubsystemError.TheVariants.{Memory}
 use Rattle.nv_file.specs.Check.{Check, first_error}
@@ -26,6 +26,10 @@ abbrev pub IsCheckedUnlessMemory : {X Y : Type 0} → (X → Y) → List Check �
 IsCheckedUnlessMemory view checks value (Ok x) = (first_error checks ≡ None) × (view x ≡ value)
 IsCheckedUnlessMemory view checks value (Err e) = (e ≡ Memory) ⊎ (first_error checks ≡ Some e)
 
--- if one of these checks fails, the first one's fault is returned, regardless of memory
-abbrev pub IsFirstFault : {X : Type 0} → List Check → Result X SubsystemError → Type 0
-IsFirstFault checks result = IfSome (first_error checks) (λ e. result ≡ Err e)
+-- the same, where memory can run out only if none of the first checks fails
+abbrev pub IsCheckedBeforeMemory : {X Y : Type 0} → (X → Y) → List Check → List Check → Y
+    → Result X SubsystemError → Type 0
+IsCheckedBeforeMemory view first checks value (Ok x) =
+    (first_error checks ≡ None) × ((view x ≡ value) × (first_error first ≡ None))
+IsCheckedBeforeMemory view first checks value (Err e) =
+    ((e ≡ Memory) × (first_error first ≡ None)) ⊎ (first_error checks ≡ Some e)

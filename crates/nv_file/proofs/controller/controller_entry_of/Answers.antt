@@ -43,10 +43,10 @@ returns-clause-exact c =
     let smart = c.in_ok-smart.ensures in
     let rules_are = rw (c.deref.ensures.value, features.1) at c.in_ok-rules.ensures.exact in
     let log = rw smart.1 at c.in_ok-smart-2.ensures.exact in
-    let wctemp = same_wctemp c.in_ok-identity.identity m identity.1 in (
+    let wctemp = same_wctemp c.in_ok-identity.identity m identity.1.0 in (
       past _ _ _ (past _ _ _ (past _ _ _ (past _ _ _ (past _ _ _ identity.0 features.0) smart.0)
           c.in_ok-only_known.ensures) rules_are.0) log.0,
-      same_parts _ _ _ _ _ _ identity.1
+      same_parts _ _ _ _ _ _ identity.1.0
           (rules_are.1 ∙ ap (λ n. map (feature_value n) (tables_at key.Feature m)) wctemp) log.1,
     )
 

@@ -1,7 +1,9 @@
-use Rattle.std.proofs.Common.{◌≡◌, ℕ, true, Option, Some, None}
+use Rattle.std.proofs.Common.{◌≡◌, ℕ, true, Option, Some, None, rules}
 use Rattle.nv_layout.specs.Feature.{is_value}
 use Rattle.nv_layout.specs.declared.feature.Feature.{Feature}
 use Rattle.nv_file.proofs.Words.{IsSomeAnd}
+use Rattle.nv_file.proofs.CheckLaws.{faults}
+use Rattle.nv_file.proofs.Opens.{defaults}
 use Rattle.nv_file.proofs.defaults.defaults_of.Goals as goal
 
 -- one value for each selector
@@ -15,3 +17,7 @@ returns-then-version-eq1-clause-values c = for_each _ c.args.value c.requires.va
 
 pub returns-else-fid-eq4-clause-values : goal.returns-else-fid-eq4-clause-values
 returns-else-fid-eq4-clause-values c = for_each _ c.args.value c.requires.value
+
+pub returns-else-fid-eq4-clause-exact : goal.returns-else-fid-eq4-clause-exact
+unfolding defaults
+returns-else-fid-eq4-clause-exact c = (search (rules, faults), (search rules, search (rules, faults)))

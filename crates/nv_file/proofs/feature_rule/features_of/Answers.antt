@@ -1,6 +1,7 @@
 use Rattle.std.proofs.Common.{◌≡◌, ℕ, ◌++◌, ◌∷◌, [], Err, refl, rules}
 use Rattle.nv_file.specs.TableChecks.{feature_value}
 use Rattle.nv_file.proofs.Words.{All-push, FeatureRule, fid_of, IsFeatureRule, Members}
+use Rattle.nv_file.proofs.CheckLaws.{memory_or_fault}
 use Rattle.nv_file.proofs.Distinct.{fresh_rule}
 use Rattle.nv_file.proofs.ReadTo.{numbers_read, read_all, read_fails_unless_memory, read_more}
 use Rattle.nv_file.proofs.feature_rule.features_of.Goals as goal
@@ -22,7 +23,7 @@ loop-table-preserved c =
           (same_fid c.args.wctemp) _ _ _ read,
     ) at c.in_ok-rule.ensures.exact in
     record {
-      read = rw grown (read_more _ _ _ _ _ _ _ x read c.loop-table-test.true c.table-item.is is.0 is.1);
+      read = rw grown (read_more _ _ _ _ _ _ _ x read c.loop-table-test.true c.table-item.is is.0 is.1.0);
       sound = rw grown (All-push IsFeatureRule xs x c.loop-table.invariant.sound c.in_ok-rule.ensures.sound);
       fids = rw grown (fresh_rule xs x c.loop-table.invariant.fids new);
     }
@@ -36,7 +37,8 @@ returns-in_err-rule-clause-exact c =
           (same_fid c.args.wctemp) _ _ _ read,
     ) at c.in_err-rule.ensures.exact in
     let is : c.from_residual.result ≡ Err c.in_err-rule.field-0.0 = search rules in
-    rw is (read_fails_unless_memory _ _ _ _ _ _ _ _ read c.loop-table-test.true c.table-item.is fails)
+    rw is (read_fails_unless_memory _ _ _ _ _ _ _ _ read c.loop-table-test.true c.table-item.is
+    (memory_or_fault fails))
 
 pub returns-clause-exact : goal.returns-clause-exact
 returns-clause-exact c = read_all _ _ _ _ _ _ c.loop-table.invariant.read c.loop-table-test.false

@@ -2,6 +2,7 @@ use Rattle.std.proofs.Common.{◌≡◌, ◌++◌, ◌∷◌, [], Err, map, arit
 use Rattle.nv_file.specs.TableChecks.{namespace_value}
 use Rattle.nv_file.proofs.Words.{All-push, common_steps, IsNamespaceEntry, map_push, Members, namespace_entry_view}
 use Rattle.nv_file.proofs.Words.{NamespaceValue, nsid_of}
+use Rattle.nv_file.proofs.CheckLaws.{memory_or_fault}
 use Rattle.nv_file.proofs.Distinct.{fresh_namespace}
 use Rattle.nv_file.proofs.ReadTo.{numbers_viewed, read_all, read_fails_unless_memory, read_more}
 use Rattle.nv_file.proofs.namespace.namespace_entries_of.Goals as goal
@@ -25,7 +26,7 @@ loop-table-preserved c =
     ) at c.in_ok-namespace.ensures.exact in
     record {
       read = rw (grown, map_push namespace_entry_view xs x)
-          (read_more _ _ _ _ _ _ _ _ read c.loop-table-test.true c.table-item.is is.0 is.1);
+          (read_more _ _ _ _ _ _ _ _ read c.loop-table-test.true c.table-item.is is.0 is.1.0);
       count = grind (arith, common_steps);
       sound = rw (grown, map_push namespace_entry_view xs x)
           (All-push good (map namespace_entry_view xs) (namespace_entry_view x)
@@ -43,7 +44,8 @@ returns-in_err-namespace-clause-exact c =
           (λ (v : NamespaceValue). v.nsid) same_nsid _ _ xs read,
     ) at c.in_err-namespace.ensures.exact in
     let is : c.from_residual.result ≡ Err c.in_err-namespace.field-0.0 = search rules in
-    rw is (read_fails_unless_memory _ _ _ _ _ _ _ _ read c.loop-table-test.true c.table-item.is fails)
+    rw is (read_fails_unless_memory _ _ _ _ _ _ _ _ read c.loop-table-test.true c.table-item.is
+    (memory_or_fault fails))
 
 pub returns-clause-exact : goal.returns-clause-exact
 returns-clause-exact c = read_all _ _ _ _ _ _ c.loop-table.invariant.read c.loop-table-test.false

@@ -8,8 +8,8 @@ returns-then-is_count-clause-exact c =
     let there : get_member (key_text c.args.key) (table_view c.args.self.now.table.now)
     ≡ Some (view c.in_ok-value.value.now) = search rules in
     let many : length (tables_view c.in_ok-tables.tables.items) ≡ c.len.result = grind (arith, common_steps) in
-    tables_there c.args.self.now.name c.args.key c.args.most _ _ _ _ true there c.in_ok-tables.ensures.exact.0
-    c.in_ok-tables.ensures.exact.1
+    tables_there c.args.self.now.name c.args.key c.args.most _ _ _ _ true there c.in_ok-tables.ensures.0
+    c.in_ok-tables.ensures.1.0
     (ap (λ n. nat_le 1 n && nat_le n c.args.most) many ∙ sym c.is_count.ensures ∙ c.if-is_count.true)
 
 pub returns-clause-exact : goal.returns-clause-exact
@@ -18,6 +18,6 @@ returns-clause-exact c =
     ≡ Some (view c.in_ok-value.value.now) = search rules in
     let many : length (tables_view c.in_ok-tables.tables.items) ≡ c.len.result = grind (arith, common_steps) in
     let law = tables_there c.args.self.now.name c.args.key c.args.most _ _ _ _ false there
-    c.in_ok-tables.ensures.exact.0 c.in_ok-tables.ensures.exact.1
+    c.in_ok-tables.ensures.0 c.in_ok-tables.ensures.1.0
     (ap (λ n. nat_le 1 n && nat_le n c.args.most) many ∙ sym c.is_count.ensures ∙ c.if-is_count.false) in
     inr (law.0 ∙ ap (λ (e : SubsystemError). Some e) (sym c.out_of_range.ensures))
