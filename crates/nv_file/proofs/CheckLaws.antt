@@ -3,7 +3,7 @@ use Rattle.std.proofs.Common.{◌≡◌, ◌∙◌, ◌⊎◌, inl, inr, Bool, t
 use Rattle.std.proofs.Common.{Some, None, Result, Ok, Err, refl, sym, ap}
 use Rattle.nv_file.specs.Check.{Check, check, checked, first_error}
 use Rattle.nv_layout.specs.UnlessMemory.{IsUnlessMemory}
-use Rattle.nv_file.proofs.Words.{IsCheckedBeforeMemory, IsCheckedUnlessMemory, Memory, option_map_or, SubsystemError}
+use Rattle.nv_file.proofs.Words.{IsCheckedBeforeMemory, Memory, option_map_or, SubsystemError}
 
 -- the first of two faults, or else the second
 abbrev pub or_else : Option SubsystemError → Option SubsystemError → Option SubsystemError
@@ -37,11 +37,6 @@ pub past : (cs ds : List Check) (o : Option SubsystemError) → first_error cs �
     → first_error (cs ++ ds) ≡ o
 past cs ds o passes h = faults_append cs ds ∙ ap (λ f. or_else f (first_error ds)) passes ∙ h
 
--- if the first of two lists of checks has a fault, both together have it
-pub fails_first : (cs ds : List Check) (e : SubsystemError) → first_error cs ≡ Some e
-    → first_error (cs ++ ds) ≡ Some e
-fails_first cs ds e fails = faults_append cs ds ∙ ap (λ f. or_else f (first_error ds)) fails
-
 pub ruleset faults = (faults_append, faults_none, fault_of)
 
 -- ---- the same as a result
@@ -51,13 +46,6 @@ pub memory_or_fault : {M F C : Type 0} → (M × F) ⊎ C → M ⊎ C
 memory_or_fault (inl memory) = inl memory.0
 memory_or_fault (inr fault) = inr fault
 
--- what is checked before memory can run out is checked unless memory runs out
-pub unless_memory : {X Y : Type 0} (view : X → Y) (first checks : List Check) (value : Y)
-    (r : Result X SubsystemError) → IsCheckedBeforeMemory view first checks value r
-    → IsCheckedUnlessMemory view checks value r
-unless_memory view first checks value (Ok x) h = (h.0, h.1.0)
-unless_memory view first checks value (Err e) h = memory_or_fault h
-
 -- a fault of the first checks is returned, regardless of memory
 pub first_fault : {X Y : Type 0} (view : X → Y) (first checks : List Check) (value : Y)
     (r : Result X SubsystemError) (e : SubsystemError) → first_error first ≡ Some e → first_error checks ≡ Some e
@@ -66,10 +54,10 @@ first_fault view first checks value (Ok x) e fails is h = absurd (cc (is, h.0))
 first_fault view first checks value (Err d) e fails is (inl memory) = absurd (cc (fails, memory.1))
 first_fault view first checks value (Err d) e fails is (inr fault) = cc (is, fault)
 
--- a result that is checked, unless memory ran out, is the value or the first fault, unless memory ran out
-pub answers : {X Y : Type 0} (view : X → Y) (checks : List Check) (value : Y) (r : Result X SubsystemError)
-    → IsCheckedUnlessMemory view checks value r → IsUnlessMemory Memory view r (checked checks value)
-answers view checks value (Ok x) h =
-    ap (λ o. option_map_or (λ e. Err e) o (Ok value)) h.0 ∙ ap (λ v. Ok v) (sym h.1)
-answers view checks value (Err e) (inl memory) = inl memory
-answers view checks value (Err e) (inr fault) = inr (ap (λ o. option_map_or (λ x. Err x) o (Ok value)) fault)
+-- a result that is checked is the value or the first fault, unless memory ran out
+pub answers : {X Y : Type 0} (view : X → Y) (first checks : List Check) (value : Y) (r : Result X SubsystemError)
+    → IsCheckedBeforeMemory view first checks value r → IsUnlessMemory Memory view r (checked checks value)
+answers view first checks value (Ok x) h =
+    ap (λ o. option_map_or (λ e. Err e) o (Ok value)) h.0 ∙ ap (λ v. Ok v) (sym h.1.0)
+answers view first checks value (Err e) (inl memory) = inl memory.0
+answers view first checks value (Err e) (inr fault) = inr (ap (λ o. option_map_or (λ x. Err x) o (Ok value)) fault)
