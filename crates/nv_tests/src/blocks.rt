@@ -36,6 +36,19 @@ struct Entry {
     cdw12: u32,
 }
 
+impl Entry {
+    /// An entry of a command for blocks: its first block, and one less than the number of blocks.
+    fn of_blocks(opcode: u32, data: u32, slba: u32, nlb: u32) -> Entry {
+        Entry {
+            opcode,
+            data,
+            cdw10: slba,
+            cdw11: 0,
+            cdw12: nlb,
+        }
+    }
+}
+
 /// Stores an entry in a slot of the submission queue. Its command identifier is 100 more than the
 /// slot.
 fn submit(rt: &impl Abort, mem: &mut FlatMemory, slot: u8, entry: Entry) {
@@ -87,54 +100,10 @@ fn blocks_as_bytes(rt: HostRuntime) {
     // a range of one block, the fifth
     store_dword(&rt, &mut mem, 0x4004, 1);
     store_dword(&rt, &mut mem, 0x4008, 4);
-    submit(
-        &rt,
-        &mut mem,
-        0,
-        Entry {
-            opcode: 0x01,
-            data: 0x2000,
-            cdw10: 3,
-            cdw11: 0,
-            cdw12: 1,
-        },
-    );
-    submit(
-        &rt,
-        &mut mem,
-        1,
-        Entry {
-            opcode: 0x02,
-            data: 0x3000,
-            cdw10: 4,
-            cdw11: 0,
-            cdw12: 0,
-        },
-    );
-    submit(
-        &rt,
-        &mut mem,
-        2,
-        Entry {
-            opcode: 0x05,
-            data: 0x2000,
-            cdw10: 4,
-            cdw11: 0,
-            cdw12: 0,
-        },
-    );
-    submit(
-        &rt,
-        &mut mem,
-        3,
-        Entry {
-            opcode: 0x01,
-            data: 0x2000,
-            cdw10: 7,
-            cdw11: 0,
-            cdw12: 1,
-        },
-    );
+    submit(&rt, &mut mem, 0, Entry::of_blocks(0x01, 0x2000, 3, 1));
+    submit(&rt, &mut mem, 1, Entry::of_blocks(0x02, 0x3000, 4, 0));
+    submit(&rt, &mut mem, 2, Entry::of_blocks(0x05, 0x2000, 4, 0));
+    submit(&rt, &mut mem, 3, Entry::of_blocks(0x01, 0x2000, 7, 1));
     submit(
         &rt,
         &mut mem,
@@ -147,18 +116,7 @@ fn blocks_as_bytes(rt: HostRuntime) {
             cdw12: 0,
         },
     );
-    submit(
-        &rt,
-        &mut mem,
-        5,
-        Entry {
-            opcode: 0x02,
-            data: 0x3000,
-            cdw10: 0,
-            cdw11: 0,
-            cdw12: 2,
-        },
-    );
+    submit(&rt, &mut mem, 5, Entry::of_blocks(0x02, 0x3000, 0, 2));
     fetch.tail(6);
     for _ in 0..6 {
         let taken = turn(&mut fetch, &mut post, &mut mem, &mut stored, &terms);
